@@ -1,0 +1,3 @@
+-- Laws of tests.
+pub mod Tests
+pub mod Computed

@@ -1,0 +1,2 @@
+-- List checking.
+pub mod ListCheck

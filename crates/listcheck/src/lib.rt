@@ -1,0 +1,1 @@
+// List checking in one pass.

@@ -1,0 +1,1 @@
+// Morton numbers by interleaving bits.

@@ -1,0 +1,4 @@
+-- Linear quadtrees.
+pub mod Raster
+pub mod Quadtree
+pub mod Valid

@@ -1,0 +1,1 @@
+// The definitions and the theory of linear quadtrees: no code.

@@ -1,0 +1,3 @@
+-- Tiles and tile words.
+pub mod Tile
+pub mod Slots
