@@ -1,3 +1,4 @@
--- Laws of tests.
+-- Laws of tests and of choices.
 pub mod Tests
+pub mod ChoiceLaws
 pub mod Computed

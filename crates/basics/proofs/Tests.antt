@@ -3,11 +3,10 @@
 --     test-map                                 the same test of an equivalent fact
 --     by-test                                  a fact of a choice, by the two ends of its test
 --     choose-yes, choose-no                    a choice whose test is known to pass, or to fail
-use mathlib.Core.Path.{_≡_, refl, ap, sym, _∙_, subst}
+use mathlib.Core.Path.{_≡_, refl, subst}
 use mathlib.Core.Bool.{Bool, true, false, _&&_, not}
-use Prim.Native.Nat.{ℕ, zero, suc, _+_, _-_, _*_, _^_, _≤_, _<_}
-use native.Mathlib.Omega.{arith}
-use lib.Dec.{T, leb, ltb, eqb, leb→le, le→leb, eqb→eq, eqb-refl}
+use Prim.Native.Nat.{ℕ, _≤_}
+use lib.Dec.{T, leb, eqb, leb→le, le→leb, eqb→eq, eqb-refl}
 
 pub data Test (P : Type 0) : Bool → Type 0 where
   holds : P → Test P true

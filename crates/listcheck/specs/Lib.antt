@@ -1,2 +1,3 @@
 -- List checking.
 pub mod ListCheck
+pub mod Pass

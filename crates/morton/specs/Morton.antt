@@ -2,6 +2,7 @@
 --     morton n c r   the Morton number of column c and row r, n bits of each: with c = (..a1 a0) and r = (..b1 b0), (..b1 a1 b0 a0)
 --     column n z     the column of the Morton number z, of n bits: the bits of z at even places
 --     row n z        the row of the Morton number z, of n bits: the bits of z at odd places
+--     sideBits       the bits of a column or a row in code: columns and rows below 1,024
 -- A bed of order n has columns and rows of n bits.
 use Prim.Native.Nat.{ℕ, zero, suc, _+_, _*_, _/_, _%_}
 
@@ -16,3 +17,6 @@ column (suc n) z = 2 * column n (z / 4) + z % 2
 unfoldable pub row : ℕ → ℕ → ℕ
 row zero z = 0
 row (suc n) z = 2 * row n (z / 4) + z / 2 % 2
+
+abbrev pub sideBits : ℕ
+sideBits = 10

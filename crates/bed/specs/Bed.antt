@@ -1,0 +1,78 @@
+-- The plain bed (document 01, "The plain bed"): what every call means, with no list in sight. Definitions only.
+--     Bed                     order, kind, pixels scanned, and the account of each pixel by its Morton number
+--     shownBed c slots        the bed that a scan record and the slots of its list show
+--     freshBed k n            a fresh scan: no pixel scanned, every account 0
+--     hasUnscanned b          a somebody's pixel is unscanned
+--     putPixel b a            the account a put on the next place
+--     Fed                     what a feed answers, with the bed that it leaves
+--     feedPixels m k b bytes   the accounts in turn, k taken before: 23, 24, 25 at each
+--     feedBed m b bytes        the feed of a bed with m slots: 22, then the accounts
+--     blockIn n c k           the block of size k at the corner c is a quadrant of a bed of order n
+--     claimCheck m n f c k a  32, 24, 25 of a claim with m slots on the raster f
+--     claimed f c k a         the raster after it
+use mathlib.Core.Bool.{Bool, _&&_, not}
+use mathlib.Core.List.{List, [], _∷_}
+use Prim.Native.Nat.{ℕ, _+_, _^_}
+use lib.Dec.{leb, ltb, eqb}
+use lib.ListN.{length}
+use Rattle.basics.specs.Choice.{if, some}
+use Rattle.refusal.specs.Refusal.{accepted, tileUnscanned, scanFull, accountTooLarge, slotsExceeded, blockInvalid}
+use Rattle.refusal.specs.Checks.{must}
+use Rattle.tile.specs.Tile.{highestAccount}
+use Rattle.tile.specs.Slots.{tilesIn}
+use Rattle.quadtree.specs.Raster.{aligned, accountAt, paint}
+use Rattle.quadtree.specs.Quadtree.{quadtree}
+use Rattle.bed.specs.declared.Kind.{Kind}
+use Rattle.bed.specs.declared.Scan.{Scan}
+use Rattle.bed.specs.Places.{pixelAt, scanned}
+
+pub record Bed : Type 0 where
+  pub order : ℕ
+  pub kind : Kind
+  pub scanned : ℕ
+  pub account : ℕ → ℕ
+
+abbrev pub shownBed : Scan → List ℕ → Bed
+shownBed c slots = record { order = c .order; kind = c .kind; scanned = c .pixels; account = accountAt (tilesIn (c .tiles) slots) }
+
+abbrev pub freshBed : Kind → ℕ → Bed
+freshBed k n = record { order = n; kind = k; scanned = 0; account = λ z. 0 }
+
+unfoldable pub hasUnscanned : Bed → Bool
+hasUnscanned b = some (λ z. ltb 0 (b .account z) && not (scanned (b .kind) (b .order) (b .scanned) z)) 0 (4 ^ b .order)
+
+unfoldable pub putPixel : Bed → ℕ → Bed
+putPixel b a =
+    let z : ℕ = pixelAt (b .kind) (b .order) (b .scanned) in
+    record { order = b .order; kind = b .kind; scanned = b .scanned + 1; account = paint (b .account) z (z + 1) a }
+
+pub record Fed : Type 0 where
+  pub number : ℕ
+  pub taken : ℕ
+  pub bed : Bed
+
+abbrev pub stopped : ℕ → ℕ → Bed → Fed
+stopped r k b = record { number = r; taken = k; bed = b }
+
+unfoldable pub feedPixels : ℕ → ℕ → Bed → List ℕ → Fed
+feedPixels m k b [] = stopped accepted k b
+feedPixels m k b (a ∷ bytes) =
+    if (eqb (b .scanned) (4 ^ b .order)) (stopped scanFull k b)
+    (if (ltb highestAccount a) (stopped accountTooLarge k b)
+    (if (ltb m (length (quadtree (b .order) (putPixel b a .account)))) (stopped slotsExceeded k b)
+    (feedPixels m (k + 1) (putPixel b a) bytes)))
+
+unfoldable pub feedBed : ℕ → Bed → List ℕ → Fed
+feedBed m b bytes = if (hasUnscanned b) (stopped tileUnscanned 0 b) (feedPixels m 0 b bytes)
+
+unfoldable pub blockIn : ℕ → ℕ → ℕ → Bool
+blockIn n c k = leb k n && (ltb c (4 ^ n) && aligned k c)
+
+abbrev pub claimed : (ℕ → ℕ) → ℕ → ℕ → ℕ → ℕ → ℕ
+claimed f c k a = paint f c (c + 4 ^ k) a
+
+unfoldable pub claimCheck : ℕ → ℕ → (ℕ → ℕ) → ℕ → ℕ → ℕ → ℕ
+claimCheck m n f c k a =
+    must (blockIn n c k) blockInvalid
+    (must (leb a highestAccount) accountTooLarge
+    (must (leb (length (quadtree n (claimed f c k a))) m) slotsExceeded accepted))

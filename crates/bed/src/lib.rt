@@ -1,0 +1,21 @@
+// The scan record (document 01, "Scanning") and its limits.
+
+// By rows, or in Morton order.
+pub enum Kind {
+    Rows,
+    Morton,
+}
+
+// A scan's kind and order, the pixels scanned and the tile count of its list.
+pub struct Scan {
+    pub kind: Kind,
+    pub order: u32,
+    pub pixels: u32,
+    pub tiles: usize,
+}
+
+impl Scan {
+    pub const HIGHEST_ORDER: u32 = tile::HIGHEST_ORDER;
+
+    pub const HIGHEST_ACCOUNT: u8 = tile::HIGHEST_ACCOUNT;
+}

@@ -1,0 +1,1 @@
+// Decoding a map to the accounts of its pixels.

@@ -1,0 +1,79 @@
+-- The demands as statements. Demand 1 is the contracts of the offered calls.
+--     Demand2 k n slots feeds   scanning from a fresh scan gives the linear quadtree of the pixels taken, and decoding gives them back
+--     Left s b                  what one list of calls leaves in record and slots, against the plain bed
+--     Demand3 ..                two lists of calls, each taken whole
+use mathlib.Core.Path.{_≡_}
+use mathlib.Core.List.{List, [], _∷_, _++_}
+use mathlib.Core.Logic.{_↔_}
+use Prim.Native.Nat.{ℕ, _-_, _^_, _≤_, _<_}
+use lib.ListN.{length, take, drop, getD, replicate}
+use Rattle.refusal.specs.Refusal.{accepted}
+use Rattle.refusal.specs.Checks.{After}
+use Rattle.tile.specs.Tile.{Tile, highestOrder}
+use Rattle.tile.specs.Slots.{tilesIn}
+use Rattle.quadtree.specs.Raster.{Shows}
+use Rattle.quadtree.specs.Quadtree.{LinearQuadtree}
+use Rattle.bed.specs.declared.Kind.{Kind}
+use Rattle.bed.specs.declared.Scan.{Scan}
+use Rattle.bed.specs.Places.{placeOf, rows}
+use Rattle.bed.specs.Bed.{Bed}
+use Rattle.decode.specs.Decode.{decodeOf}
+use Rattle.scan.specs.FreshScan.{freshOf}
+use Rattle.scan.specs.Feed.{feedOf}
+use Rattle.kingletbed.specs.Calls.{Call, State, answers, left, plainAnswers, plainLeft, Begins}
+
+-- the tile list in use
+abbrev pub listIn : State → List Tile
+listIn s = tilesIn (s .scan .tiles) (s .slots)
+
+-- decoding what was left, into a raster of the right length, writes the raster f row after row
+abbrev pub Decodes : State → (ℕ → ℕ) → Type 0
+Decodes s f = (raster : List ℕ) → length raster ≡ 4 ^ s .scan .order →
+    decodeOf (s .scan .order) (s .scan .tiles) (s .slots) raster ≡ record { answer = accepted; storage = rows (s .scan .order) f }
+
+-- the feeds in turn, each handed what the one before left; and the pixels taken by all of them
+unfoldable pub afterFeeds : State → List (List ℕ) → State
+afterFeeds s [] = s
+afterFeeds s (bytes ∷ feeds) = let r = feedOf (s .scan) (s .slots) bytes in afterFeeds (record { scan = r .answer .scan; slots = r .storage }) feeds
+
+unfoldable pub taken : State → List (List ℕ) → List ℕ
+taken s [] = []
+taken s (bytes ∷ feeds) = let r = feedOf (s .scan) (s .slots) bytes in take (r .answer .taken) bytes ++ taken (record { scan = r .answer .scan; slots = r .storage }) feeds
+
+abbrev pub freshState : Kind → ℕ → List ℕ → State
+freshState k n slots = let r = freshOf k n slots in record { scan = r .answer .scan; slots = r .storage }
+
+-- the i-th pixel stands on the i-th place of the scan, and 0 on the places behind
+abbrev pub scanRaster : Kind → ℕ → List ℕ → ℕ → ℕ
+scanRaster k n pixels z = getD pixels (placeOf k n z) 0
+
+pub record Demand2 (k : Kind) (n : ℕ) (slots : List ℕ) (feeds : List (List ℕ)) : Type 0 where
+  pub count : afterFeeds (freshState k n slots) feeds .scan .pixels ≡ length (taken (freshState k n slots) feeds)
+  pub linear : LinearQuadtree n (scanRaster k n (taken (freshState k n slots) feeds)) (listIn (afterFeeds (freshState k n slots) feeds))
+  pub decodes : Decodes (afterFeeds (freshState k n slots) feeds) (scanRaster k n (taken (freshState k n slots) feeds))
+
+-- demand 2, for every kind, order, content of the slots and way of cutting the pixels into feeds
+pub DemandTwo : Type 0
+DemandTwo = (k : Kind) (n : ℕ) (slots : List ℕ) (feeds : List (List ℕ)) → n ≤ highestOrder → Demand2 k n slots feeds
+
+pub record Left (s : State) (b : Bed) : Type 0 where
+  pub order : s .scan .order ≡ b .order
+  pub linear : LinearQuadtree (b .order) (b .account) (listIn s)
+  pub rest : drop (s .scan .tiles) (s .slots) ≡ replicate (length (s .slots) - s .scan .tiles) 0
+  pub decodes : Decodes s (b .account)
+  pub least : (ts : List Tile) → Shows (b .order) (b .account) ts → length (listIn s) ≤ length ts
+
+pub record Demand3 (s₁ s₂ : State) (b₁ b₂ : Bed) (cs₁ cs₂ : List Call) : Type 0 where
+  pub answers₁ : answers s₁ cs₁ ≡ plainAnswers (length (s₁ .slots)) b₁ cs₁
+  pub answers₂ : answers s₂ cs₂ ≡ plainAnswers (length (s₂ .slots)) b₂ cs₂
+  pub left₁ : Left (left s₁ cs₁) (plainLeft (length (s₁ .slots)) b₁ cs₁)
+  pub left₂ : Left (left s₂ cs₂) (plainLeft (length (s₂ .slots)) b₂ cs₂)
+  pub same : plainLeft (length (s₁ .slots)) b₁ cs₁ .order ≡ plainLeft (length (s₂ .slots)) b₂ cs₂ .order →
+      (listIn (left s₁ cs₁) ≡ listIn (left s₂ cs₂)) ↔
+      ((z : ℕ) → z < 4 ^ plainLeft (length (s₁ .slots)) b₁ cs₁ .order →
+      plainLeft (length (s₁ .slots)) b₁ cs₁ .account z ≡ plainLeft (length (s₂ .slots)) b₂ cs₂ .account z)
+
+-- demand 3: any numbers of slots with any content, any records and beds before, any lists of calls begun by an accepted fresh scan or reading
+pub DemandThree : Type 0
+DemandThree = (s₁ s₂ : State) (b₁ b₂ : Bed) (c₁ c₂ : Call) (cs₁ cs₂ : List Call) →
+    Begins (length (s₁ .slots)) c₁ → Begins (length (s₂ .slots)) c₂ → Demand3 s₁ s₂ b₁ b₂ (c₁ ∷ cs₁) (c₂ ∷ cs₂)

@@ -1,0 +1,1 @@
+// What is offered. So far: the demands as statements.

@@ -1,0 +1,119 @@
+-- List checking accepts just the valid lists.
+--     wordsCheck-valid   words are accepted just where their tiles are a valid list
+--     listCheck-valid    the offered call accepts just an order, a count and a valid list that are within bounds
+--     listCheck-filled   a valid list that is left in slots is accepted from them
+use mathlib.Core.Path.{_≡_, refl}
+use mathlib.Core.Logic.{_↔_}
+use mathlib.Core.List.{List, [], _∷_, map, reverseAux, List·Memᴰ·head, List·Memᴰ·tail}
+use Prim.Native.Nat.{ℕ, suc, _^_, _≤_, _<_}
+use native.Mathlib.Omega.{arith}
+use lib.ListN.{length, take}
+use Rattle.basics.proofs.Tests.{test-leb, test-and, test-not}
+use Rattle.refusal.specs.Refusal.{accepted, orderTooLarge, countAboveSlots, highBitsSet, sizeAboveOrder, cornerInvalid, accountZero, tilesOverlap, siblingsUnmerged}
+use Rattle.refusal.proofs.CheckLaws.{must-pass, must-inv}
+use Rattle.tile.specs.Tile.{Tile, tileOf, wordLimit, highestOrder, highestAccount}
+use Rattle.tile.specs.Slots.{tilesIn, filled}
+use Rattle.tile.proofs.TileLaws.{tileOf-corner-low}
+use Rattle.tile.proofs.SlotsLaws.{filled-length, tilesIn-filled}
+use Rattle.quadtree.specs.Raster.{Quadrant, _∈_}
+use Rattle.quadtree.specs.Valid.{Sound, Chain, end, link, Valid}
+use Rattle.quadtree.proofs.Alignment.{area-mono, test-aligned}
+use Rattle.quadtree.proofs.Siblings.{Four, NoFour, merged-no-four, no-four-merged}
+use Rattle.listcheck.specs.ListCheck.{ended, tileCheck, wordCheck, wordsCheck, listCheck}
+use Rattle.listcheck.proofs.LastOfFour.{Last, test-last}
+
+-- what a tile that passes has
+record Passed (n : ℕ) (seen : List Tile) (t : Tile) (rest : ℕ) : Type 0 where
+  sound : Sound n (ended seen) t
+  merged : Last seen t → ⊥
+  on : rest ≡ accepted
+
+module _ (n : ℕ) (seen : List Tile) (t : Tile) (rest : ℕ) where
+  passed : tileCheck n seen t rest ≡ accepted → Passed n seen t rest
+  unfolding tileCheck
+  passed e =
+      let a = must-inv (test-leb (t .size) n) (omega arith) e in
+      let b = must-inv (test-and (test-leb (suc (t .corner)) (4 ^ n)) (test-aligned (t .size) (t .corner))) (omega arith) (a .1) in
+      let c = must-inv (test-leb 1 (t .account)) (omega arith) (b .1) in
+      let d = must-inv (test-leb (ended seen) (t .corner)) (omega arith) (c .1) in
+      let g = must-inv (test-not (test-last seen t)) (omega arith) (d .1) in
+      record { sound = record { quadrant = record { fits = a .0; inside = b .0 .0; aligned = b .0 .1; owned = c .0 }; after = d .0 }; merged = g .0; on = g .1 }
+
+  passes : Passed n seen t rest → tileCheck n seen t rest ≡ accepted
+  unfolding tileCheck
+  passes p =
+      let q = p .sound .quadrant in
+      must-pass sizeAboveOrder (test-leb (t .size) n) (q .fits)
+      (must-pass cornerInvalid (test-and (test-leb (suc (t .corner)) (4 ^ n)) (test-aligned (t .size) (t .corner))) (q .inside, q .aligned)
+      (must-pass accountZero (test-leb 1 (t .account)) (q .owned)
+      (must-pass tilesOverlap (test-leb (ended seen) (t .corner)) (p .sound .after)
+      (must-pass siblingsUnmerged (test-not (test-last seen t)) (p .merged) (p .on)))))
+
+-- a word whose tile lies in the bed has no high bit set
+word-low : (n w : ℕ) → n ≤ highestOrder → tileOf w .corner < 4 ^ n → w < wordLimit
+word-low n w h l = let m : 4 ^ n ≤ 4 ^ highestOrder = area-mono h in tileOf-corner-low w (omega arith)
+
+module _ (n : ℕ) where
+  first : (seen : List Tile) (w : ℕ) (ws : List ℕ) → wordsCheck n seen (w ∷ ws) ≡ accepted → Passed n seen (tileOf w) (wordsCheck n (tileOf w ∷ seen) ws)
+  unfolding wordsCheck wordCheck
+  first seen w ws e = passed n seen (tileOf w) _ (must-inv (test-leb (suc w) wordLimit) (omega arith) e .1)
+
+  accepted-chain : (seen : List Tile) (ws : List ℕ) → wordsCheck n seen ws ≡ accepted → Chain n (ended seen) (map tileOf ws)
+  unfolding ended
+  accepted-chain seen [] e = end
+  accepted-chain seen (w ∷ ws) e = let p = first seen w ws e in link (p .sound) (accepted-chain (tileOf w ∷ seen) ws (p .on))
+
+  no-four-ahead : (seen : List Tile) (x : Tile) (ws : List ℕ) → wordsCheck n (x ∷ seen) ws ≡ accepted → Four x (map tileOf ws) → ⊥
+  no-four-ahead seen x [] e b = b
+  no-four-ahead seen x (y ∷ []) e b = b
+  no-four-ahead seen x (y ∷ z ∷ []) e b = b
+  no-four-ahead seen x (y ∷ z ∷ w ∷ ws) e b =
+      first (tileOf z ∷ tileOf y ∷ x ∷ seen) w ws (first (tileOf y ∷ x ∷ seen) z (w ∷ ws) (first (x ∷ seen) y (z ∷ w ∷ ws) e .on) .on) .merged b
+
+  accepted-no-four : (seen : List Tile) (ws : List ℕ) → wordsCheck n seen ws ≡ accepted → NoFour (map tileOf ws)
+  accepted-no-four seen [] e = tt
+  accepted-no-four seen (w ∷ ws) e = let p = first seen w ws e in (no-four-ahead seen (tileOf w) ws (p .on), accepted-no-four (tileOf w ∷ seen) ws (p .on))
+
+  -- the tiles seen, in their order, and those to come
+  no-four-behind : (seen ts : List Tile) → NoFour (reverseAux seen ts) → NoFour ts
+  no-four-behind [] ts h = h
+  no-four-behind (x ∷ seen) ts h = no-four-behind seen (x ∷ ts) h .1
+
+  not-last : (seen : List Tile) (x : Tile) (ts : List Tile) → NoFour (reverseAux seen (x ∷ ts)) → Last seen x → ⊥
+  not-last [] x ts h b = b
+  not-last (z ∷ []) x ts h b = b
+  not-last (z ∷ y ∷ []) x ts h b = b
+  not-last (z ∷ y ∷ w ∷ seen) x ts h b = no-four-behind seen (w ∷ y ∷ z ∷ x ∷ ts) h .0 b
+
+  chain-accepted : n ≤ highestOrder → (seen : List Tile) (ws : List ℕ) → Chain n (ended seen) (map tileOf ws) → NoFour (reverseAux seen (map tileOf ws)) → wordsCheck n seen ws ≡ accepted
+  unfolding wordsCheck wordCheck ended
+  chain-accepted o seen [] c h = refl
+  chain-accepted o seen (w ∷ ws) (link p r) h =
+      must-pass highBitsSet (test-leb (suc w) wordLimit) (word-low n w o (p .quadrant .inside))
+      (passes n seen (tileOf w) _ (record { sound = p; merged = not-last seen (tileOf w) (map tileOf ws) h; on = chain-accepted o (tileOf w ∷ seen) ws r h }))
+
+  pub wordsCheck-valid : n ≤ highestOrder → (ws : List ℕ) → (wordsCheck n [] ws ≡ accepted) ↔ Valid n (map tileOf ws)
+  unfolding ended
+  wordsCheck-valid o ws = (
+    λ e. let c = accepted-chain [] ws e in record { chain = c; merged = no-four-merged c (accepted-no-four [] ws e) },
+    λ v. chain-accepted o [] ws (v .chain) (merged-no-four (map tileOf ws) (v .merged)),
+  )
+
+pub listCheck-valid : (n t : ℕ) (slots : List ℕ) → (listCheck n t slots ≡ accepted) ↔ ((n ≤ highestOrder) × (t ≤ length slots) × Valid n (tilesIn t slots))
+unfolding listCheck tilesIn
+listCheck-valid n t slots = (
+  λ e.
+      let a = must-inv (test-leb n highestOrder) (omega arith) e in
+      let b = must-inv (test-leb t (length slots)) (omega arith) (a .1) in
+      (a .0, b .0, wordsCheck-valid n (a .0) (take t slots) .0 (b .1)),
+  λ v. must-pass orderTooLarge (test-leb n highestOrder) (v .0) (must-pass countAboveSlots (test-leb t (length slots)) (v .1) (wordsCheck-valid n (v .0) (take t slots) .1 (v .2))),
+)
+
+chain-quadrant : {n lo : ℕ} {t : Tile} {ts : List Tile} → Chain n lo ts → t ∈ ts → Quadrant n t
+chain-quadrant (link s r) (List·Memᴰ·head e) = rw e (s .quadrant)
+chain-quadrant (link s r) (List·Memᴰ·tail m) = chain-quadrant r m
+
+pub listCheck-filled : (n m : ℕ) (ts : List Tile) → n ≤ highestOrder → length ts ≤ m → ((t : Tile) → t ∈ ts → t .account ≤ highestAccount) → Valid n ts → listCheck n (length ts) (filled m ts) ≡ accepted
+listCheck-filled n m ts o l a v =
+    listCheck-valid n (length ts) (filled m ts) .1
+    (o, omega (arith, filled-length m ts l), rw (tilesIn-filled m ts (λ t i. record { size = omega (arith, chain-quadrant (v .chain) i .fits); account = a t i })) v)

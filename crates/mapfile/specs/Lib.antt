@@ -1,0 +1,4 @@
+-- The map file.
+pub mod Roster
+pub mod Writer
+pub mod Reader

@@ -1,0 +1,3 @@
+-- The calls that search a map.
+pub mod Lookup
+pub mod Part

@@ -1,0 +1,42 @@
+-- Quadrant part (document 01, "Other calls"): the run of a list whose tiles lie wholly inside a quadrant. Definitions only.
+--     isAhead c u, isInside c k u   the tile u has a smaller corner than c; it lies wholly inside the block of size k at c
+--     counted g ts                  how many tiles of ts pass the test g
+--     partCheck ..                  1, 2, 11 to 16, then 32
+--     partOf n t slots c k          the companion: the part's position, behind all tiles with a smaller corner, and its length
+--     sliceOf n t slots c k         the part itself; refused, the empty part at the start of the slots
+-- That the part is the tiles inside, no less and no more, is the law `part-inside`.
+use mathlib.Core.Bool.{Bool, _&&_}
+use mathlib.Core.List.{List, [], _∷_}
+use Prim.Native.Nat.{ℕ, _+_, _^_}
+use lib.Dec.{leb, ltb}
+use lib.ListN.{take, drop}
+use Rattle.basics.specs.Choice.{if}
+use Rattle.refusal.specs.Refusal.{accepted, blockInvalid}
+use Rattle.refusal.specs.Checks.{must, orElse, unless}
+use Rattle.tile.specs.Tile.{Tile, stop}
+use Rattle.tile.specs.Slots.{tilesIn}
+use Rattle.listcheck.specs.ListCheck.{listCheck}
+use Rattle.bed.specs.Bed.{blockIn}
+use Rattle.reading.specs.declared.Part.{Part}
+
+abbrev pub isAhead : ℕ → Tile → Bool
+isAhead c u = ltb (u .corner) c
+
+abbrev pub isInside : ℕ → ℕ → Tile → Bool
+isInside c k u = leb c (u .corner) && leb (stop u) (c + 4 ^ k)
+
+unfoldable pub counted : (Tile → Bool) → List Tile → ℕ
+counted g [] = 0
+counted g (u ∷ us) = if (g u) 1 0 + counted g us
+
+unfoldable pub partCheck : ℕ → ℕ → List ℕ → ℕ → ℕ → ℕ
+partCheck n t slots c k = orElse (listCheck n t slots) (must (blockIn n c k) blockInvalid accepted)
+
+unfoldable pub partOf : ℕ → ℕ → List ℕ → ℕ → ℕ → Part
+partOf n t slots c k =
+    unless (partCheck n t slots c k)
+    (λ number. record { number = number; position = 0; length = 0 })
+    (record { number = accepted; position = counted (isAhead c) (tilesIn t slots); length = counted (isInside c k) (tilesIn t slots) })
+
+unfoldable pub sliceOf : ℕ → ℕ → List ℕ → ℕ → ℕ → List ℕ
+sliceOf n t slots c k = take (partOf n t slots c k .length) (drop (partOf n t slots c k .position) slots)

@@ -1,0 +1,3 @@
+-- Fresh scans and feeds.
+pub mod FreshScan
+pub mod Feed

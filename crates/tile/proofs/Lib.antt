@@ -1,0 +1,4 @@
+-- Laws of tiles, tile words and slots.
+pub mod TileLaws
+pub mod SlotsLaws
+pub mod Bits

@@ -1,0 +1,2 @@
+-- The worked beds, computed.
+pub mod Computed

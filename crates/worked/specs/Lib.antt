@@ -1,0 +1,2 @@
+-- The worked beds of document 01.
+pub mod Table

@@ -1,0 +1,1 @@
+// The starred lines of document 01's "Worked beds", proved: no code.
