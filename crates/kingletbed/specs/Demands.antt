@@ -8,13 +8,11 @@ use mathlib.Core.Logic.{_↔_}
 use Prim.Native.Nat.{ℕ, _-_, _^_, _≤_, _<_}
 use lib.ListN.{length, take, drop, getD, replicate}
 use Rattle.refusal.specs.Refusal.{accepted}
-use Rattle.refusal.specs.Checks.{After}
 use Rattle.tile.specs.Tile.{Tile, highestOrder}
 use Rattle.tile.specs.Slots.{tilesIn}
 use Rattle.quadtree.specs.Raster.{Shows}
 use Rattle.quadtree.specs.Quadtree.{LinearQuadtree}
 use Rattle.bed.specs.declared.Kind.{Kind}
-use Rattle.bed.specs.declared.Scan.{Scan}
 use Rattle.bed.specs.Places.{placeOf, rows}
 use Rattle.bed.specs.Bed.{Bed}
 use Rattle.decode.specs.Decode.{decodeOf}
@@ -53,7 +51,7 @@ pub record Demand2 (k : Kind) (n : ℕ) (slots : List ℕ) (feeds : List (List �
   pub decodes : Decodes (afterFeeds (freshState k n slots) feeds) (scanRaster k n (taken (freshState k n slots) feeds))
 
 -- demand 2, for every kind, order, content of the slots and way of cutting the pixels into feeds
-pub DemandTwo : Type 0
+unfoldable pub DemandTwo : Type 0
 DemandTwo = (k : Kind) (n : ℕ) (slots : List ℕ) (feeds : List (List ℕ)) → n ≤ highestOrder → Demand2 k n slots feeds
 
 pub record Left (s : State) (b : Bed) : Type 0 where
@@ -74,6 +72,6 @@ pub record Demand3 (s₁ s₂ : State) (b₁ b₂ : Bed) (cs₁ cs₂ : List Cal
       plainLeft (length (s₁ .slots)) b₁ cs₁ .account z ≡ plainLeft (length (s₂ .slots)) b₂ cs₂ .account z)
 
 -- demand 3: any numbers of slots with any content, any records and beds before, any lists of calls begun by an accepted fresh scan or reading
-pub DemandThree : Type 0
+unfoldable pub DemandThree : Type 0
 DemandThree = (s₁ s₂ : State) (b₁ b₂ : Bed) (c₁ c₂ : Call) (cs₁ cs₂ : List Call) →
     Begins (length (s₁ .slots)) c₁ → Begins (length (s₂ .slots)) c₂ → Demand3 s₁ s₂ b₁ b₂ (c₁ ∷ cs₁) (c₂ ∷ cs₂)

@@ -5,7 +5,7 @@
 --     wordsCheck n seen ws      the words in turn: the first bad word decides, and in it the first bad row
 --     listCheck n t slots       the offered call, of an order, a tile count and slots
 -- The tiles seen are given last first. All of them passed, so that siblings of t among them are the ones directly ahead of it.
-use mathlib.Core.Bool.{Bool, true, false, _&&_, not}
+use mathlib.Core.Bool.{Bool, false, _&&_, not}
 use mathlib.Core.List.{List, [], _∷_}
 use Prim.Native.Nat.{ℕ, _+_, _^_}
 use lib.Dec.{leb, ltb, eqb}

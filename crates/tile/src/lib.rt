@@ -9,9 +9,6 @@ pub const HIGHEST_ORDER: u32 = 10;
 // Accounts go from 0, nobody's, to it.
 pub const HIGHEST_ACCOUNT: u8 = 63;
 
-// The words of tiles are below it: bits 31 and 30 are zero.
-pub const WORD_LIMIT: u32 = 1 << 30;
-
 // The account is in the lowest bits, the size stands above it, and the corner above the size.
 const ACCOUNT_BITS: u32 = 6;
 
@@ -22,6 +19,9 @@ const CORNER_PLACE: u32 = ACCOUNT_BITS + SIZE_BITS;
 const ACCOUNT_MASK: u32 = (1 << ACCOUNT_BITS) - 1;
 
 const SIZE_MASK: u32 = (1 << SIZE_BITS) - 1;
+
+// The words of tiles are below it: a corner takes two bits for each order, so that bits 31 and 30 are zero.
+pub const WORD_LIMIT: u32 = 1 << (CORNER_PLACE + 2 * HIGHEST_ORDER);
 
 // The corner of the tile of the word w.
 pub fn corner(w: u32) -> u32

@@ -11,9 +11,6 @@ use borrow.Author.Needs.{needs}
 use Rattle.listcheck.proofs.row.Statement.{statement}
 use Rattle.listcheck.proofs.row.Tie as tie
 
-rem-if1 : tie.Need-rem-if1
-rem-if1 c = omega (arith, area-pos (c .before .args .size + 1))
-
 returns : tie.Need-returns
 unfolding nextRow joins aligned if
 returns c = simp (sym (c .before .area .ensures), eq-eqb _ _ (c .if1 .taken))
@@ -37,6 +34,9 @@ returns-5 c = simp (sym (c .before .before .before .before .before .before .befo
 returns-6 : tie.Need-returns-6
 unfolding nextRow joins aligned if
 returns-6 c = simp (sym (c .before .before .before .before .before .before .before .before .before .before .area .ensures), ne-eqb _ _ (c .before .before .before .before .before .before .before .before .before .if1 .left), lt-ltb 0 (c .before .before .before .before .before .before .before .before .before .before .before .args .ahead .row) (omega (arith, c .before .before .before .before .before .before .before .if2 .left)), eq-eqb _ _ (c .before .before .before .before .before .if3 .left), eq-eqb _ _ (c .before .before .before .if4 .left), eq-eqb _ _ (c .before .if5 .left))
+
+rem-if1 : tie.Need-rem-if1
+rem-if1 c = omega (arith, area-pos (c .before .args .size + 1))
 
 pub row-spec : {M : Type 1} → statement M
 row-spec = tie.close (tie.spec (λ c. search needs) (λ c κs. search needs) rem-if1 returns returns-2 returns-3 returns-4 returns-5 (λ c. search needs) returns-6)

@@ -5,12 +5,12 @@ use Rattle.tile.specs.Tile.{tileOf}
 use Rattle.tile.proofs.account.Statement.{statement}
 use Rattle.tile.proofs.account.Tie as tie
 
-cast-result : tie.Need-cast-result
-cast-result c = omega (arith, mask-lt (c .args .w) 6)
-
 returns : tie.Need-returns
 unfolding tileOf
 returns c = and-mask _ 6
+
+cast-result : tie.Need-cast-result
+cast-result c = omega (arith, mask-lt (c .args .w) 6)
 
 pub account-spec : {M : Type 1} → statement M
 account-spec = tie.close (tie.spec cast-result returns)

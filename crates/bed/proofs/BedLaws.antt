@@ -1,0 +1,113 @@
+-- The plain bed goes by the accounts of its own pixels: rasters that agree on them give the same answers.
+--     Agree n f g        f and g have the same accounts on the pixels of order n
+--     bedOf k n s f      the bed of kind k and order n with s pixels scanned and the raster f
+--     Good m n s f       what holds of a bed that a list in m slots shows: the order and s are in range, accounts too, and the blocks fit
+--     put k n s a f      the raster f with the account a on the place behind the first s
+--     FedAlike           two feeds answer alike, and leave beds that agree and are good
+--     feedPixels-alike   feeds of beds that agree
+--     claimCheck-agree   claims on rasters that agree are refused alike
+use mathlib.Core.Path.{_≡_, refl, ap, sym, _∙_}
+use mathlib.Core.Bool.{Bool}
+use mathlib.Core.List.{List, [], _∷_}
+use Prim.Native.Nat.{ℕ, suc, _+_, _^_, _≤_, _<_}
+use native.Mathlib.Decide.{decLt, decLe}
+use native.Mathlib.Omega.{arith}
+use lib.Dec.{ltb}
+use lib.ListN.{length}
+use Rattle.basics.specs.Choice.{if}
+use Rattle.basics.proofs.Tests.{Test, holds, fails, test-leb, test-eqb}
+use Rattle.refusal.specs.Refusal.{accepted, scanFull, accountTooLarge, slotsExceeded}
+use Rattle.tile.specs.Tile.{Tile, highestOrder, highestAccount}
+use Rattle.quadtree.specs.Raster.{paint}
+use Rattle.quadtree.specs.Quadtree.{quadtree}
+use Rattle.quadtree.proofs.Shown.{paint-in, paint-out}
+use Rattle.quadtree.proofs.ValidLaws.{quadtree-cong}
+use Rattle.bed.specs.declared.Kind.{Kind}
+use Rattle.bed.specs.Places.{pixelAt}
+use Rattle.bed.specs.Bed.{Bed, Fed, stopped, putPixel, feedPixels, claimed, claimCheck}
+
+abbrev pub Agree : ℕ → (ℕ → ℕ) → (ℕ → ℕ) → Type 0
+Agree n f g = (z : ℕ) → z < 4 ^ n → f z ≡ g z
+
+pub paint-agree : (n : ℕ) {f g : ℕ → ℕ} (lo hi a : ℕ) → Agree n f g → Agree n (paint f lo hi a) (paint g lo hi a)
+paint-agree n {f} {g} lo hi a e z h = elim (decLe lo z) [
+  | yes l ↦ elim (decLt z hi) [
+    | yes u ↦ paint-in f lo hi a z l u ∙ sym (paint-in g lo hi a z l u)
+    | no u ↦ out (λ i. u (i .1))
+  ]
+  | no l ↦ out (λ i. l (i .0))
+]
+  where
+    out : ((lo ≤ z) × (z < hi) → ⊥) → paint f lo hi a z ≡ paint g lo hi a z
+    out i = paint-out f lo hi a z i ∙ e z h ∙ sym (paint-out g lo hi a z i)
+
+abbrev pub bedOf : Kind → ℕ → ℕ → (ℕ → ℕ) → Bed
+bedOf k n s f = record { order = n; kind = k; scanned = s; account = f }
+
+-- accounts are in range
+abbrev pub Accounts : ℕ → (ℕ → ℕ) → Type 0
+Accounts n f = (z : ℕ) → z < 4 ^ n → f z ≤ highestAccount
+
+pub paint-accounts : (n : ℕ) {f : ℕ → ℕ} (lo hi a : ℕ) → a ≤ highestAccount → Accounts n f → Accounts n (paint f lo hi a)
+paint-accounts n {f} lo hi a l b z h = elim (decLe lo z) [
+  | yes p ↦ elim (decLt z hi) [ yes q ↦ omega (arith, paint-in f lo hi a z p q) | no q ↦ omega (arith, paint-out f lo hi a z (λ i. q (i .1)), b z h) ]
+  | no p ↦ omega (arith, paint-out f lo hi a z (λ i. p (i .0)), b z h)
+]
+
+pub record Good (m n s : ℕ) (f : ℕ → ℕ) : Type 0 where
+  pub order : n ≤ highestOrder
+  pub scanned : s ≤ 4 ^ n
+  pub accounts : Accounts n f
+  pub room : length (quadtree n f) ≤ m
+
+-- the same choice on both sides
+if-alike : {A B : Type 0} (R : A → B → Type 0) {P : Type 0} {b c : Bool} {x y : A} {u v : B} → Test P b → c ≡ b → R x u → ((P → ⊥) → R y v) → R (if c x y) (if b u v)
+unfolding if
+if-alike R (holds p) e s t = rw e s
+if-alike R (fails p) e s t = rw e (t p)
+
+pub record FedAlike (m : ℕ) (k : Kind) (n : ℕ) (p q : Fed) : Type 0 where
+  pub number : p .number ≡ q .number
+  pub taken : p .taken ≡ q .taken
+  pub scanned : ℕ
+  pub first : ℕ → ℕ
+  pub second : ℕ → ℕ
+  pub first-bed : p .bed ≡ bedOf k n scanned first
+  pub second-bed : q .bed ≡ bedOf k n scanned second
+  pub agree : Agree n first second
+  pub good : Good m n scanned second
+
+-- the raster f with the account a on the place behind the first s
+abbrev pub put : Kind → ℕ → ℕ → ℕ → (ℕ → ℕ) → ℕ → ℕ
+put k n s a f = paint f (pixelAt k n s) (pixelAt k n s + 1) a
+
+module _ (m : ℕ) (k : Kind) (n : ℕ) where
+  stopped-alike : (r j s : ℕ) (f g : ℕ → ℕ) → Agree n f g → Good m n s g → FedAlike m k n (stopped r j (bedOf k n s f)) (stopped r j (bedOf k n s g))
+  stopped-alike r j s f g e w = record { number = refl; taken = refl; scanned = s; first = f; second = g; first-bed = refl; second-bed = refl; agree = e; good = w }
+
+  put-agree : (s a : ℕ) (f g : ℕ → ℕ) → Agree n f g → Agree n (put k n s a f) (put k n s a g)
+  put-agree s a f g e = paint-agree n (pixelAt k n s) (pixelAt k n s + 1) a e
+
+  pub put-good : (s a : ℕ) (g : ℕ → ℕ) → Good m n s g → (s ≡ 4 ^ n → ⊥) → a ≤ highestAccount → length (quadtree n (put k n s a g)) ≤ m → Good m n (s + 1) (put k n s a g)
+  put-good s a g w full low room = record { order = w .order; scanned = omega (arith, w .scanned); accounts = paint-accounts n (pixelAt k n s) (pixelAt k n s + 1) a low (w .accounts); room = room }
+
+  pixel-alike : (j s a : ℕ) (f g : ℕ → ℕ) (bytes : List ℕ) → Agree n f g → Good m n s g →
+      (Good m n (s + 1) (put k n s a g) → FedAlike m k n (feedPixels m (j + 1) (bedOf k n (s + 1) (put k n s a f)) bytes) (feedPixels m (j + 1) (bedOf k n (s + 1) (put k n s a g)) bytes)) →
+      FedAlike m k n (feedPixels m j (bedOf k n s f) (a ∷ bytes)) (feedPixels m j (bedOf k n s g) (a ∷ bytes))
+  unfolding feedPixels putPixel
+  pixel-alike j s a f g bytes e w rest =
+      if-alike (FedAlike m k n) (test-eqb s (4 ^ n)) refl (stopped-alike scanFull j s f g e w) (λ full.
+      if-alike (FedAlike m k n) (test-leb (suc highestAccount) a) refl (stopped-alike accountTooLarge j s f g e w) (λ high.
+      if-alike (FedAlike m k n) (test-leb (suc m) (length (quadtree n (put k n s a g)))) (ap (λ (ts : List Tile). ltb m (length ts)) (quadtree-cong n (put k n s a f) (put k n s a g) (put-agree s a f g e)))
+      (stopped-alike slotsExceeded j s f g e w) (λ over.
+      rest (put-good s a g w full (omega arith) (omega arith)))))
+
+  pub feedPixels-alike : (j s : ℕ) (f g : ℕ → ℕ) (bytes : List ℕ) → Agree n f g → Good m n s g →
+      FedAlike m k n (feedPixels m j (bedOf k n s f) bytes) (feedPixels m j (bedOf k n s g) bytes)
+  unfolding feedPixels
+  feedPixels-alike j s f g [] e w = stopped-alike accepted j s f g e w
+  feedPixels-alike j s f g (a ∷ bytes) e w = pixel-alike j s a f g bytes e w (λ v. feedPixels-alike (j + 1) (s + 1) (put k n s a f) (put k n s a g) bytes (put-agree s a f g e) v)
+
+pub claimCheck-agree : (m n : ℕ) (f g : ℕ → ℕ) (c k a : ℕ) → Agree n f g → claimCheck m n f c k a ≡ claimCheck m n g c k a
+unfolding claimCheck
+claimCheck-agree m n f g c k a e = rw (quadtree-cong n (claimed f c k a) (claimed g c k a) (paint-agree n c (c + 4 ^ k) a e))

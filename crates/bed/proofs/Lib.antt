@@ -1,0 +1,4 @@
+-- Laws of the scan's places and of the plain bed.
+pub mod LastPixel
+pub mod PlaceLaws
+pub mod BedLaws

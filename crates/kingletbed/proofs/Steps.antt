@@ -1,0 +1,220 @@
+-- One call: record and slots answer what the plain bed answers, and keep the bed that it leaves.
+--     Agrees m p q       the two steps answer alike, and the state kept is that of the bed left
+--     fresh-begins       an accepted fresh scan, whatever was there before
+--     read-begins        an accepted reading, whatever was there before
+--     step-agrees        any call on a state that keeps a bed
+use mathlib.Core.Path.{_≡_, refl, ap, sym, _∙_}
+use mathlib.Core.Bool.{Bool, true, false, not}
+use mathlib.Core.List.{List, [], _∷_, _++_, map}
+use Prim.Native.Nat.{ℕ, zero, suc, _+_, _-_, _^_, _≤_}
+use native.Mathlib.Decide.{decLe}
+use native.Mathlib.Nat.{le-refl}
+use native.Mathlib.Omega.{arith}
+use lib.ListN.{length, replicate, length-map}
+use Rattle.basics.specs.Choice.{if}
+use Rattle.basics.proofs.Tests.{test-leb}
+use Rattle.basics.proofs.Tests as tests
+use Rattle.refusal.specs.Refusal.{accepted, orderTooLarge, scannedTooLarge, tileUnscanned, blockInvalid}
+use Rattle.refusal.specs.Checks.{must, unless}
+use Rattle.refusal.proofs.CheckLaws.{must-on, must-off, must-inv, else-on, else-inv}
+use Rattle.tile.specs.Tile.{Tile, tileOf, highestOrder, highestAccount}
+use Rattle.tile.specs.Slots.{filled}
+use Rattle.tile.proofs.TileLaws.{tileOf-account}
+use Rattle.tile.proofs.SlotsLaws.{words-tiles}
+use Rattle.quadtree.specs.Raster.{accountAt, covers}
+use Rattle.quadtree.specs.Quadtree.{quadtree, single}
+use Rattle.quadtree.specs.Valid.{Valid}
+use Rattle.quadtree.proofs.Blocks.{blocks-uniform}
+use Rattle.quadtree.proofs.ValidLaws.{quadtree-cong, valid-quadtree}
+use Rattle.listcheck.specs.ListCheck.{wordsCheck}
+use Rattle.listcheck.proofs.OneWord.{wordCheck-rest}
+use Rattle.listcheck.proofs.Accepts.{wordsCheck-valid}
+use Rattle.bed.specs.declared.Kind.{Kind}
+use Rattle.bed.specs.declared.Kind.the-variants.{Rows}
+use Rattle.bed.specs.Places.{scanOf}
+use Rattle.bed.specs.Bed as bed
+use Rattle.bed.specs.Bed.{Bed, freshBed, claimed, claimCheck, feedBed, feedPixels, hasUnscanned}
+use Rattle.bed.proofs.BedLaws.{Good, bedOf, paint-agree, paint-accounts, claimCheck-agree, FedAlike, feedPixels-alike}
+use Rattle.scan.specs.FreshScan.{freshOf}
+use Rattle.scan.specs.Feed.{opening, fedTo, feedOf}
+use Rattle.claim.specs.Claim.{claimRefusal, claimOf}
+use Rattle.mapfile.specs.Reader.{wordAt, wordsAt, tilesCheck, fileCheck, fileOrder, fileCount, fileWords, readOf, readBed}
+use Rattle.kingletbed.specs.Calls.{Call, fresh, feed, claim, read, answer, State, Step, PlainStep, step, plainStep, plainFed, afterFresh, afterFeed, afterClaim, afterRead, Begins}
+use Rattle.kingletbed.specs.Demands.{listIn}
+use Rattle.kingletbed.proofs.Kept.{keptBy, Kept, kept-list, kept-length, kept-check, kept-shown}
+use Rattle.kingletbed.proofs.Unscanned.{unscanned-alike}
+
+pub record Accepted (m : ℕ) (bs : List ℕ) : Type 0 where
+  pub order : fileOrder bs ≤ highestOrder
+  pub count : length (fileWords bs) ≡ fileCount bs
+  pub room : fileCount bs ≤ m
+  pub valid : Valid (fileOrder bs) (map tileOf (fileWords bs))
+
+words-accepted : (n t : ℕ) (seen : List Tile) (bs : List ℕ) (p : ℕ) → tilesCheck n t seen bs p ≡ accepted → wordsCheck n seen (wordsAt t bs p) ≡ accepted
+unfolding tilesCheck wordsCheck wordsAt
+words-accepted n zero seen bs p e = refl
+words-accepted n (suc t) seen bs p e =
+    let a = must-inv (test-leb (p + 4) (length bs)) (omega arith) e in
+    let b = else-inv _ _ (sym (wordCheck-rest n seen (wordAt bs p) _) ∙ a .1) in
+    wordCheck-rest n seen (wordAt bs p) _ ∙ else-on _ _ (b .0) ∙ words-accepted n t (tileOf (wordAt bs p) ∷ seen) bs (p + 4) (b .1)
+
+length-wordsAt : (t : ℕ) (bs : List ℕ) (p : ℕ) → length (wordsAt t bs p) ≡ t
+unfolding wordsAt
+length-wordsAt zero bs p = refl
+length-wordsAt (suc t) bs p = ap suc (length-wordsAt t bs (p + 4))
+
+file-accepted : (m : ℕ) (bs : List ℕ) → fileCheck m bs ≡ accepted → Accepted m bs
+unfolding fileCheck
+file-accepted m bs e =
+    let a = must-inv (test-leb 1 (length bs)) (omega arith) e in
+    let b = must-inv (test-leb (fileOrder bs) highestOrder) (omega arith) (a .1) in
+    let c = must-inv (test-leb 5 (length bs)) (omega arith) (b .1) in
+    let d = must-inv (test-leb (fileCount bs) m) (omega arith) (c .1) in
+    let t = else-inv _ _ (d .1) in
+    record { order = b .0; count = length-wordsAt (fileCount bs) bs 5; room = d .0; valid = wordsCheck-valid (fileOrder bs) (b .0) (fileWords bs) .0 (words-accepted (fileOrder bs) (fileCount bs) [] bs 5 (t .0)) }
+
+pub record Agrees (m : ℕ) (p : Step) (q : PlainStep) : Type 0 where
+  pub answer : p .answer ≡ q .answer
+  pub kept : Kept m (p .state) (q .bed)
+
+-- the empty bed
+blank-quadtree : (n : ℕ) → quadtree n (λ z. 0) ≡ []
+unfolding quadtree single
+blank-quadtree n = blocks-uniform (λ z. 0) 0 n 0 (λ z l h. refl)
+
+filled-none : (m : ℕ) → filled m [] ≡ replicate m 0
+unfolding filled
+filled-none m = let e : m - 0 ≡ m = omega arith in rw e
+
+pub fresh-kept : (m l : ℕ) → l ≡ m → (k : Kind) (n : ℕ) → n ≤ highestOrder → Kept m (record { scan = scanOf k n 0 0; slots = replicate l 0 }) (freshBed k n)
+fresh-kept m l slots k n h = record {
+  is = rw (blank-quadtree n, filled-none m, slots);
+  good = record { order = h; scanned = omega arith; accounts = λ z l. omega arith; room = rw (blank-quadtree n) (omega arith) };
+}
+
+module _ (m : ℕ) (s : State) (slots : length (s .slots) ≡ m) (b : Bed) where
+  pub fresh-begins : (k : Kind) (n : ℕ) → n ≤ highestOrder → Agrees m (step s (fresh k n)) (plainStep m b (fresh k n))
+  unfolding step plainStep afterFresh freshOf unless
+  fresh-begins k n h = rw (must-on orderTooLarge accepted (test-leb n highestOrder) h) (record { answer = refl; kept = fresh-kept m (length (s .slots)) slots k n h })
+
+fresh-refused : (m : ℕ) (s : State) (b : Bed) (k : Kind) (n : ℕ) → Kept m s b → (n ≤ highestOrder → ⊥) → Agrees m (step s (fresh k n)) (plainStep m b (fresh k n))
+unfolding step plainStep afterFresh freshOf unless
+fresh-refused m s b k n w h = rw (must-off orderTooLarge accepted (test-leb n highestOrder) h) (record { answer = refl; kept = w })
+
+-- claims
+module _ (m : ℕ) (b : Bed) (w : Good m (b .order) (b .scanned) (b .account)) (c k a : ℕ) where
+  shown : ℕ → ℕ
+  shown = accountAt (listIn (keptBy m b))
+
+  claim-number : claimRefusal (b .order) (keptBy m b .scan .tiles) (keptBy m b .slots) c k a ≡ claimCheck m (b .order) (b .account) c k a
+  unfolding claimRefusal shown
+  claim-number =
+      else-on _ _ (kept-check b w)
+      ∙ ap (λ (l : ℕ). claimCheck l (b .order) shown c k a) (kept-length b w)
+      ∙ claimCheck-agree m (b .order) shown (b .account) c k a (kept-shown b w)
+
+  claim-list : quadtree (b .order) (claimed (accountAt (listIn (keptBy m b))) c k a) ≡ quadtree (b .order) (claimed (b .account) c k a)
+  claim-list = quadtree-cong (b .order) _ _ (paint-agree (b .order) c (c + 4 ^ k) a (kept-shown b w))
+
+  claim-good : claimCheck m (b .order) (b .account) c k a ≡ accepted → Good m (b .order) (b .scanned) (claimed (b .account) c k a)
+  unfolding claimCheck
+  claim-good e =
+      let p = must-inv {r = blockInvalid} (tests.test _ (λ t. t) (λ t. t)) (omega arith) e in
+      let q = must-inv (test-leb a highestAccount) (omega arith) (p .1) in
+      let r = must-inv (test-leb (length (quadtree (b .order) (claimed (b .account) c k a))) m) (omega arith) (q .1) in
+      record { order = w .order; scanned = w .scanned; accounts = paint-accounts (b .order) c (c + 4 ^ k) a (q .0) (w .accounts); room = r .0 }
+
+  claim-agrees-by : (r : ℕ) → claimCheck m (b .order) (b .account) c k a ≡ r → Agrees m (step (keptBy m b) (claim c k a)) (plainStep m b (claim c k a))
+  unfolding step plainStep afterClaim claimOf unless
+  claim-agrees-by zero e = rw (claim-number, e, claim-list, kept-length b w) (record { answer = refl; kept = record { is = refl; good = claim-good e } })
+  claim-agrees-by (suc r) e = rw (claim-number, e) (record { answer = refl; kept = record { is = refl; good = w } })
+
+  pub claim-agrees : Agrees m (step (keptBy m b) (claim c k a)) (plainStep m b (claim c k a))
+  claim-agrees = claim-agrees-by (claimCheck m (b .order) (b .account) c k a) refl
+
+-- feeds
+module _ (m : ℕ) (b : Bed) (w : Good m (b .order) (b .scanned) (b .account)) (bytes : List ℕ) where
+  feed-opening : opening (keptBy m b .scan) (keptBy m b .slots) ≡ must (not (hasUnscanned b)) tileUnscanned accepted
+  unfolding opening
+  feed-opening =
+      else-on _ _ (kept-check b w)
+      ∙ must-on scannedTooLarge _ (test-leb (b .scanned) (4 ^ b .order)) (w .scanned)
+      ∙ rw (kept-list b w, unscanned-alike (b .kind) (b .order) (b .scanned) (keptBy m b .scan .tiles) (b .account))
+
+  -- the feed of the bed that the list shows, and that of the bed
+  fed-alike : FedAlike m (b .kind) (b .order) (feedPixels m 0 (bedOf (b .kind) (b .order) (b .scanned) (accountAt (listIn (keptBy m b)))) bytes) (feedPixels m 0 b bytes)
+  fed-alike = feedPixels-alike m (b .kind) (b .order) 0 (b .scanned) (accountAt (listIn (keptBy m b))) (b .account) bytes (kept-shown b w) w
+
+  fed-kept : {p q : bed.Fed} → FedAlike m (b .kind) (b .order) p q → Agrees m (afterFeed (fedTo m p)) (plainFed q)
+  unfolding afterFeed fedTo
+  fed-kept {p} {q} f = record {
+    answer = λ i. answer (f .number i) (f .taken i);
+    kept = record {
+      is = ap (keptBy m) (f .first-bed) ∙ between ∙ ap (keptBy m) (sym (f .second-bed));
+      good = rw (f .second-bed) (f .good);
+    };
+  }
+    where
+      between : keptBy m (bedOf (b .kind) (b .order) (f .scanned) (f .first)) ≡ keptBy m (bedOf (b .kind) (b .order) (f .scanned) (f .second))
+      between = rw (quadtree-cong (b .order) (f .first) (f .second) (f .agree))
+
+  feed-agrees-by : (x : Bool) → hasUnscanned b ≡ x → Agrees m (step (keptBy m b) (feed bytes)) (plainStep m b (feed bytes))
+  unfolding step plainStep feedOf feedBed unless must if afterFeed
+  feed-agrees-by true e = rw (feed-opening, e) (record { answer = refl; kept = record { is = refl; good = w } })
+  feed-agrees-by false e = rw (feed-opening, e, kept-length b w) (fed-kept fed-alike)
+
+  pub feed-agrees : Agrees m (step (keptBy m b) (feed bytes)) (plainStep m b (feed bytes))
+  feed-agrees = feed-agrees-by (hasUnscanned b) refl
+
+-- readings
+account-shown : (ws : List ℕ) (z : ℕ) → accountAt (map tileOf ws) z ≤ highestAccount
+unfolding accountAt
+account-shown [] z = omega arith
+account-shown (w ∷ ws) z = tests.by-test (λ a. a ≤ highestAccount) (tests.test (covers (tileOf w) z) (λ t. t) (λ t. t)) (λ p. tileOf-account w) (λ p. account-shown ws z)
+
+module _ (m : ℕ) (s : State) (slots : length (s .slots) ≡ m) (b : Bed) (bytes : List ℕ) (e : fileCheck m bytes ≡ accepted) where
+  tiles : List Tile
+  tiles = map tileOf (fileWords bytes)
+
+  read-list : Valid (fileOrder bytes) tiles → quadtree (fileOrder bytes) (accountAt tiles) ≡ tiles
+  read-list v = sym (valid-quadtree v)
+
+  read-kept : Accepted m bytes → Kept m (record { scan = scanOf Rows (fileOrder bytes) (4 ^ fileOrder bytes) (fileCount bytes); slots = fileWords bytes ++ replicate (m - fileCount bytes) 0 }) (readBed bytes)
+  unfolding tiles filled
+  read-kept r = record {
+    is = rw (read-list (r .valid), words-tiles (fileWords bytes), length-map (fileWords bytes) tileOf, r .count);
+    good = record { order = r .order; scanned = le-refl _; accounts = λ z h. account-shown (fileWords bytes) z; room = rw (read-list (r .valid), length-map (fileWords bytes) tileOf, r .count) (r .room) };
+  }
+
+  pub read-begins : Agrees m (step s (read bytes)) (plainStep m b (read bytes))
+  unfolding step plainStep afterRead readOf unless
+  read-begins = rw (slots, e) (record { answer = refl; kept = read-kept (file-accepted m bytes e) })
+
+read-refused : (m : ℕ) (s : State) (b : Bed) (bytes : List ℕ) (r : ℕ) → length (s .slots) ≡ m → Kept m s b → fileCheck m bytes ≡ suc r → Agrees m (step s (read bytes)) (plainStep m b (read bytes))
+unfolding step plainStep afterRead readOf unless
+read-refused m s b bytes r slots w e = rw (slots, e) (record { answer = refl; kept = w })
+
+-- any call on a state that keeps a bed
+module _ (m : ℕ) (b : Bed) (w : Good m (b .order) (b .scanned) (b .account)) where
+  kept : Kept m (keptBy m b) b
+  kept = record { is = refl; good = w }
+
+  read-agrees : (bytes : List ℕ) (r : ℕ) → fileCheck m bytes ≡ r → Agrees m (step (keptBy m b) (read bytes)) (plainStep m b (read bytes))
+  read-agrees bytes zero e = read-begins m (keptBy m b) (kept-length b w) b bytes e
+  read-agrees bytes (suc r) e = read-refused m (keptBy m b) b bytes r (kept-length b w) kept e
+
+  call-agrees : (c : Call) → Agrees m (step (keptBy m b) c) (plainStep m b c)
+  call-agrees (fresh k n) = elim (decLe n highestOrder) [ yes h ↦ fresh-begins m (keptBy m b) (kept-length b w) b k n h | no h ↦ fresh-refused m (keptBy m b) b k n kept h ]
+  call-agrees (feed bytes) = feed-agrees m b w bytes
+  call-agrees (claim c k a) = claim-agrees m b w c k a
+  call-agrees (read bytes) = read-agrees bytes (fileCheck m bytes) refl
+
+pub step-agrees : {m : ℕ} {s : State} {b : Bed} (c : Call) → Kept m s b → Agrees m (step s c) (plainStep m b c)
+step-agrees {m} {s} {b} c k = rw (k .is) (call-agrees m b (k .good) c)
+
+-- the call that begins a list
+pub begin-agrees : (s : State) (b : Bed) (c : Call) → Begins (length (s .slots)) c → Agrees (length (s .slots)) (step s c) (plainStep (length (s .slots)) b c)
+begin-agrees s b (fresh k n) h = fresh-begins (length (s .slots)) s refl b k n h
+begin-agrees s b (feed bytes) h = absurd h
+begin-agrees s b (claim c k a) h = absurd h
+begin-agrees s b (read bytes) h = read-begins (length (s .slots)) s refl b bytes h
