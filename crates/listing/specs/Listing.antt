@@ -23,7 +23,7 @@ use Rattle.listing.specs.declared.Listed.{Listed}
 -- at most k digits, the last first in the recursion: n / 10 and then the last digit, with no needless zero ahead
 unfoldable pub digitsBy : ℕ → ℕ → List ℕ
 digitsBy zero n = []
-digitsBy (suc k) n = if (ltb n 10) (48 + n ∷ []) (digitsBy k (n / 10) ++ (48 + n % 10 ∷ []))
+digitsBy (suc k) n = if (ltb n 10) ((48 + n) ∷ []) (digitsBy k (n / 10) ++ ((48 + n % 10) ∷ []))
 
 abbrev pub digits : ℕ → List ℕ
 digits n = digitsBy 10 n
@@ -48,17 +48,17 @@ abbrev pub takenWord : List ℕ
 takenWord = 32 ∷ 116 ∷ 97 ∷ 107 ∷ 101 ∷ 110 ∷ 32 ∷ []
 
 unfoldable pub bedLine : ℕ → ℕ → List ℕ
-bedLine n t = bedWord ++ (digits n ++ (tilesWord ++ (digits t ++ lineFeed ∷ [])))
+bedLine n t = bedWord ++ (digits n ++ (tilesWord ++ (digits t ++ (lineFeed ∷ []))))
 
 unfoldable pub tileLine : Tile → List ℕ
-tileLine t = digits (t .corner) ++ space ∷ (digits (t .size) ++ space ∷ (digits (t .account) ++ lineFeed ∷ []))
+tileLine t = digits (t .corner) ++ (space ∷ (digits (t .size) ++ (space ∷ (digits (t .account) ++ (lineFeed ∷ [])))))
 
 unfoldable pub tileLines : List Tile → List ℕ
 tileLines [] = []
 tileLines (t ∷ ts) = tileLine t ++ tileLines ts
 
 unfoldable pub stopLine : ℕ → ℕ → List ℕ
-stopLine number taken = stopWord ++ (digits number ++ (takenWord ++ (digits taken ++ lineFeed ∷ [])))
+stopLine number taken = stopWord ++ (digits number ++ (takenWord ++ (digits taken ++ (lineFeed ∷ []))))
 
 abbrev pub listedOrder : ℕ
 listedOrder = 6
