@@ -39,10 +39,10 @@ use Rattle.scan.specs.FreshScan.{freshOf}
 use Rattle.scan.specs.Feed.{opening, fedTo, feedOf}
 use Rattle.claim.specs.Claim.{claimRefusal, claimOf}
 use Rattle.mapfile.specs.Reader.{wordAt, wordsAt, tilesCheck, fileCheck, fileOrder, fileCount, fileWords, readOf, readBed}
-use Rattle.kingletbed.specs.Calls.{Call, fresh, feed, claim, read, answer, State, Step, PlainStep, step, plainStep, plainFed, afterFresh, afterFeed, afterClaim, afterRead, Begins}
-use Rattle.kingletbed.specs.Demands.{listIn}
-use Rattle.kingletbed.proofs.Kept.{keptBy, Kept, kept-list, kept-length, kept-check, kept-shown}
-use Rattle.kingletbed.proofs.Unscanned.{unscanned-alike}
+use Rattle.demands.specs.Calls.{Call, fresh, feed, claim, read, answer, State, Step, PlainStep, step, plainStep, plainFed, afterFresh, afterFeed, afterClaim, afterRead, Begins}
+use Rattle.demands.specs.Demands.{listIn}
+use Rattle.demands.proofs.Kept.{keptBy, Kept, kept-list, kept-length, kept-check, kept-shown}
+use Rattle.demands.proofs.Unscanned.{unscanned-alike}
 
 pub record Accepted (m : ℕ) (bs : List ℕ) : Type 0 where
   pub order : fileOrder bs ≤ highestOrder

@@ -11,11 +11,11 @@ use Rattle.quadtree.specs.Raster.{accountAt}
 use Rattle.quadtree.specs.Quadtree.{quadtree}
 use Rattle.quadtree.proofs.ValidLaws.{quadtree-cong, quadtree-shown}
 use Rattle.bed.specs.Bed.{Bed}
-use Rattle.kingletbed.specs.Calls.{Call, State, step, plainStep, answers, left, plainAnswers, plainLeft, Begins}
-use Rattle.kingletbed.specs.Demands.{listIn, DemandTwo, DemandThree}
-use Rattle.kingletbed.proofs.Kept.{Kept, kept-list, kept-left}
-use Rattle.kingletbed.proofs.Steps.{Agrees, step-agrees, begin-agrees}
-use Rattle.kingletbed.proofs.Scanning.{scan-kept}
+use Rattle.demands.specs.Calls.{Call, State, step, plainStep, answers, left, plainAnswers, plainLeft, Begins}
+use Rattle.demands.specs.Demands.{listIn, DemandTwo, DemandThree}
+use Rattle.demands.proofs.Kept.{Kept, kept-list, kept-left}
+use Rattle.demands.proofs.Steps.{Agrees, step-agrees, begin-agrees}
+use Rattle.demands.proofs.Scanning.{scan-kept}
 
 -- a list of calls on a state that keeps a bed
 record Ran (m : ℕ) (s : State) (b : Bed) (cs : List Call) : Type 0 where

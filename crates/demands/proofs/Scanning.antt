@@ -28,11 +28,11 @@ use Rattle.bed.specs.Bed.{Bed, Fed, stopped, putPixel, feedPixels, feedBed, has
 use Rattle.bed.proofs.PlaceLaws.{placeOf-pixelAt, pixelAt-placeOf}
 use Rattle.bed.proofs.BedLaws.{Agree, Good, bedOf, put, put-good, FedAlike, feedPixels-alike}
 use Rattle.scan.specs.FreshScan.{freshOf}
-use Rattle.kingletbed.specs.Calls.{Answer, State, step, plainStep, plainFed, afterFeed, feed}
-use Rattle.kingletbed.specs.Demands.{freshState, afterFeeds, taken, scanRaster}
-use Rattle.kingletbed.proofs.Kept.{keptBy, Kept}
-use Rattle.kingletbed.proofs.Unscanned.{none-unscanned}
-use Rattle.kingletbed.proofs.Steps.{Agrees, fresh-kept, step-agrees}
+use Rattle.demands.specs.Calls.{Answer, State, step, plainStep, plainFed, afterFeed, feed}
+use Rattle.demands.specs.Demands.{freshState, afterFeeds, taken, scanRaster}
+use Rattle.demands.proofs.Kept.{keptBy, Kept}
+use Rattle.demands.proofs.Unscanned.{none-unscanned}
+use Rattle.demands.proofs.Steps.{Agrees, fresh-kept, step-agrees}
 
 abbrev pub scanBed : Kind → ℕ → List ℕ → Bed
 scanBed k n px = bedOf k n (length px) (scanRaster k n px)

@@ -32,8 +32,8 @@ use Rattle.bed.specs.Bed.{Bed}
 use Rattle.bed.proofs.PlaceLaws.{rows-cong}
 use Rattle.bed.proofs.BedLaws.{Good}
 use Rattle.decode.specs.Decode.{decodeOf, decodeCheck}
-use Rattle.kingletbed.specs.Calls.{State}
-use Rattle.kingletbed.specs.Demands.{listIn, Decodes, Left}
+use Rattle.demands.specs.Calls.{State}
+use Rattle.demands.specs.Demands.{listIn, Decodes, Left}
 
 abbrev pub keptBy : ℕ → Bed → State
 keptBy m b = record { scan = scanOf (b .kind) (b .order) (b .scanned) (length (quadtree (b .order) (b .account))); slots = filled m (quadtree (b .order) (b .account)) }

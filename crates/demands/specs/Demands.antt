@@ -18,7 +18,7 @@ use Rattle.bed.specs.Bed.{Bed}
 use Rattle.decode.specs.Decode.{decodeOf}
 use Rattle.scan.specs.FreshScan.{freshOf}
 use Rattle.scan.specs.Feed.{feedOf}
-use Rattle.kingletbed.specs.Calls.{Call, State, answers, left, plainAnswers, plainLeft, Begins}
+use Rattle.demands.specs.Calls.{Call, State, answers, left, plainAnswers, plainLeft, Begins}
 
 -- the tile list in use
 abbrev pub listIn : State → List Tile

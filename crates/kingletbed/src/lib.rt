@@ -1,1 +1,0 @@
-// What is offered. So far: the demands as statements.
