@@ -9,7 +9,7 @@
 --     Begins m c        c is a fresh scan or a reading that is accepted with m slots
 use mathlib.Core.Path.{_≡_}
 use mathlib.Core.List.{List, [], _∷_}
-use Prim.Native.Nat.{ℕ, _^_, _≤_}
+use Prim.Native.Nat.{ℕ, _+_, _^_, _≤_}
 use lib.Dec.{leb}
 use Rattle.refusal.specs.Refusal.{accepted, orderTooLarge}
 use Rattle.refusal.specs.Checks.{must, unless, After}
