@@ -36,13 +36,8 @@ area-sides n = sym (pow-add 2 n n) ∙ twice n
 
 pub pixelAt-lt : (k : Kind) (n i : ℕ) → i < 4 ^ n → pixelAt k n i < 4 ^ n
 unfolding pixelAt
-pixelAt-lt Rows n i h = morton-lt n (i % 2 ^ n) (i / 2 ^ n)
+pixelAt-lt Rows n i h = morton-lt n _ _
 pixelAt-lt Morton n i h = h
-
-pub placeOf-lt : (k : Kind) (n z : ℕ) → z < 4 ^ n → placeOf k n z < 4 ^ n
-unfolding placeOf
-placeOf-lt Rows n z h = omega (arith, mul-le-mul-right (2 ^ n) (row-lt n z), column-lt n z, area-sides n)
-placeOf-lt Morton n z h = h
 
 -- the row of a place
 row-of-lt : (n i : ℕ) → i < 4 ^ n → i / 2 ^ n < 2 ^ n
@@ -69,6 +64,11 @@ pixelAt-placeOf Rows n z h =
     let e = apart (2 ^ n) (i % 2 ^ n) (i / 2 ^ n) (column n z) (row n z) (mod-lt i (pow-pos n)) (column-lt n z) (div-add-mod' i (2 ^ n)) in
     ap₂ (morton n) (e .0) (e .1) ∙ morton-column-row n z h
 pixelAt-placeOf Morton n z h = refl
+
+pub placeOf-lt : (k : Kind) (n z : ℕ) → z < 4 ^ n → placeOf k n z < 4 ^ n
+unfolding placeOf
+placeOf-lt Rows n z h = omega (arith, mul-le-mul-right (2 ^ n) (row-lt n z), column-lt n z, area-sides n)
+placeOf-lt Morton n z h = h
 
 -- of two pixels, the one that lies neither west nor north of the other comes later
 rows-later : (n y z : ℕ) → y < 4 ^ n → z < 4 ^ n → z < y → column n z ≤ column n y → row n z ≤ row n y → placeOf Rows n z < placeOf Rows n y

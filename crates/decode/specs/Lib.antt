@@ -1,2 +1,3 @@
 -- Decoding.
 pub mod Decode
+pub mod Filled

@@ -1,0 +1,4 @@
+-- Laws of decoding.
+pub mod FilledLaws
+pub mod FillingLaws
+pub mod DecodeLaws
