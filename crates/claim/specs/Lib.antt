@@ -1,2 +1,3 @@
 -- Claims.
 pub mod Claim
+pub mod Stores

@@ -1,0 +1,99 @@
+-- The refusals of a claim, in their order.
+--     blockCheck n c k a     32 and 24 alone
+--     blockCheck-outside, -inside   32, or what is left
+--     mod-aligned            the code's test of alignment
+--     refusal-listed         a list that is refused decides
+--     refusal-checked        then 32 or 24
+--     checked-claimable      what has passed is claimable
+--     refusal-claimable      and only 25 is left
+--     claimOf-refused, -done   the answer and the storage, by the refusal
+use mathlib.Core.Path.{_≡_, _∙_, refl, ap, sym}
+use mathlib.Core.Bool.{Bool, true, false}
+use mathlib.Core.List.{List}
+use mathlib.Core.Logic.{_↔_}
+use Prim.Native.Nat.{ℕ, suc, _/_, _%_, _^_, _≤_, _<_}
+use native.Mathlib.Nat.{div-add-mod', mul-mod-left}
+use native.Mathlib.Omega.{arith}
+use lib.Dec.{leb}
+use lib.ListN.{length}
+use Rattle.basics.proofs.Tests.{Test, test-leb, test-and}
+use Rattle.refusal.specs.Refusal.{accepted, accountTooLarge, slotsExceeded, blockInvalid}
+use Rattle.refusal.specs.Checks.{must, After}
+use Rattle.refusal.proofs.CheckLaws.{must-on, must-off, must-inv, else-on, else-off, unless-on, unless-off}
+use Rattle.tile.specs.Tile.{Tile, highestAccount}
+use Rattle.tile.specs.Slots.{tilesIn, filled}
+use Rattle.quadtree.specs.Raster.{Aligned, accountAt}
+use Rattle.quadtree.specs.Quadtree.{quadtree}
+use Rattle.quadtree.proofs.Alignment.{test-aligned}
+use Rattle.listcheck.specs.ListCheck.{listCheck}
+use Rattle.listcheck.proofs.Accepts.{listCheck-valid}
+use Rattle.bed.specs.Bed.{blockIn, claimed, claimCheck}
+use Rattle.plan.specs.Plan.{Claimable}
+use Rattle.claim.specs.declared.Claimed.{Claimed}
+use Rattle.claim.specs.Claim.{claimRefusal, claimOf}
+
+pub test-blockIn : (n c k : ℕ) → Test ((k ≤ n) × ((c < 4 ^ n) × Aligned k c)) (blockIn n c k)
+unfolding blockIn
+test-blockIn n c k = test-and (test-leb k n) (test-and (test-leb (suc c) (4 ^ n)) (test-aligned k c))
+
+abbrev pub blockCheck : ℕ → ℕ → ℕ → ℕ → ℕ
+blockCheck n c k a = must (blockIn n c k) blockInvalid (must (leb a highestAccount) accountTooLarge accepted)
+
+-- 32 by its three tests, then 24
+module _ (n c k a : ℕ) where
+  pub blockCheck-outside : ((k ≤ n) × ((c < 4 ^ n) × Aligned k c) → ⊥) → blockInvalid ≡ blockCheck n c k a
+  blockCheck-outside ne = sym (must-off blockInvalid _ (test-blockIn n c k) ne)
+
+  pub blockCheck-inside : k ≤ n → c < 4 ^ n → Aligned k c → blockCheck n c k a ≡ must (leb a highestAccount) accountTooLarge accepted
+  blockCheck-inside h l m = must-on blockInvalid _ (test-blockIn n c k) (h, (l, m))
+
+-- the code's test of alignment
+pub mod-aligned : (k c side : ℕ) → side ≡ 4 ^ k → (c % side ≡ 0) ↔ Aligned k c
+mod-aligned k c side e = rw e (
+  λ z. record { times = c / 4 ^ k; is = omega (arith, div-add-mod' c (4 ^ k)) },
+  λ m. ap (λ (y : ℕ). y % 4 ^ k) (m .is) ∙ mul-mod-left (m .times) (4 ^ k),
+)
+
+-- what comes behind two checks does not matter where one of them refuses
+must-two : (b d : Bool) (r q rest : ℕ) → (must b r (must d q accepted) ≡ accepted → ⊥) → must b r (must d q rest) ≡ must b r (must d q accepted)
+unfolding must
+must-two true true r q rest ne = absurd (ne refl)
+must-two true false r q rest ne = refl
+must-two false d r q rest ne = refl
+
+module _ (n t : ℕ) (slots : List ℕ) (c k a : ℕ) where
+  abbrev ts : List Tile
+  ts = quadtree n (claimed (accountAt (tilesIn t slots)) c k a)
+
+  pub claimOf-refused : (r : ℕ) → (r ≡ accepted → ⊥) → claimRefusal n t slots c k a ≡ r → _≡_ {A = After Claimed} (record { answer = record { number = r; tiles = 0 }; storage = slots }) (claimOf n t slots c k a)
+  unfolding claimOf
+  claimOf-refused r ne e = sym (rw e (unless-off r (λ number. record { answer = record { number = number; tiles = 0 }; storage = slots }) (record { answer = record { number = accepted; tiles = length ts }; storage = filled (length slots) ts }) ne))
+
+  pub claimOf-done : claimRefusal n t slots c k a ≡ accepted → _≡_ {A = After Claimed} (record { answer = record { number = accepted; tiles = length ts }; storage = filled (length slots) ts }) (claimOf n t slots c k a)
+  unfolding claimOf
+  claimOf-done e = sym (unless-on (claimRefusal n t slots c k a) (λ number. record { answer = record { number = number; tiles = 0 }; storage = slots }) (record { answer = record { number = accepted; tiles = length ts }; storage = filled (length slots) ts }) e)
+
+  pub refusal-listed : (listCheck n t slots ≡ accepted → ⊥) → claimRefusal n t slots c k a ≡ listCheck n t slots
+  unfolding claimRefusal
+  refusal-listed ne = else-off (listCheck n t slots) _ ne
+
+  module _ (e : listCheck n t slots ≡ accepted) where
+    behind : claimRefusal n t slots c k a ≡ claimCheck (length slots) n (accountAt (tilesIn t slots)) c k a
+    unfolding claimRefusal
+    behind = else-on (listCheck n t slots) _ e
+
+    pub refusal-checked : (blockCheck n c k a ≡ accepted → ⊥) → claimRefusal n t slots c k a ≡ blockCheck n c k a
+    unfolding claimCheck
+    refusal-checked ne = behind ∙ must-two (blockIn n c k) (leb a highestAccount) blockInvalid accountTooLarge _ ne
+
+    pub checked-claimable : blockCheck n c k a ≡ accepted → (t ≤ length slots) × Claimable n (tilesIn t slots) c k a
+    checked-claimable f =
+        let l = listCheck-valid n t slots .0 e in
+        let b = must-inv (test-blockIn n c k) (omega arith) f in
+        let d = must-inv (test-leb a highestAccount) (omega arith) (b .1) in
+        (l .1, record { order = l .0; valid = l .2; size = b .0 .0; inside = b .0 .1 .0; aligned = b .0 .1 .1; account = d .0 })
+
+  pub refusal-claimable : t ≤ length slots → Claimable n (tilesIn t slots) c k a → claimRefusal n t slots c k a ≡ must (leb (length ts) (length slots)) slotsExceeded accepted
+  unfolding claimCheck
+  refusal-claimable h q =
+      behind (listCheck-valid n t slots .1 (q .order, h, q .valid)) ∙ must-on blockInvalid _ (test-blockIn n c k) (q .size, (q .inside, q .aligned)) ∙ must-on accountTooLarge _ (test-leb a highestAccount) (q .account)

@@ -1,0 +1,2 @@
+-- Plans of claims.
+pub mod Plan

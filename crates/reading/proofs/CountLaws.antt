@@ -1,0 +1,93 @@
+-- Laws of counts of tiles, and of how many tiles of a sorted list lie ahead of a Morton number.
+--     test-ahead, test-inside      what the two tests of the definitions test
+--     counted-yes, counted-no      a count by what its test says of the first tile
+--     counted-none, counted-le     a count of none, and its bound
+--     rising-from, rising-at       where the tiles of a list of rising corners start
+--     ahead-none                   no tile lies ahead of where the list starts
+--     ahead-past, ahead-upto       what the tile at i says of how many are ahead
+--     slot-past, slot-upto         what the tile in slot i says of it
+use mathlib.Core.Path.{_≡_, refl, _∙_}
+use mathlib.Core.Bool.{Bool}
+use mathlib.Core.List.{List, [], _∷_, List·Memᴰ·head, List·Memᴰ·tail}
+use Prim.Native.Nat.{ℕ, zero, suc, _+_, _^_, _≤_, _<_}
+use native.Mathlib.Decide.{decLt}
+use native.Mathlib.Omega.{arith}
+use lib.ListN.{length, getD}
+use Rattle.basics.specs.Choice.{if}
+use Rattle.basics.proofs.Tests.{Test, holds, fails, test-leb, test-and}
+use Rattle.basics.proofs.ChoiceLaws.{if-yes, if-no}
+use Rattle.tile.specs.Tile.{Tile, stop, tileOf}
+use Rattle.tile.specs.Slots.{tilesIn}
+use Rattle.tile.proofs.SlotsLaws.{length-tilesIn}
+use Rattle.quadtree.specs.Raster.{_∈_}
+use Rattle.quadtree.specs.Quadtree.{Rising, end, link}
+use Rattle.reading.specs.Part.{isAhead, isInside, counted}
+use Rattle.reading.proofs.SlotTiles.{tilesIn-at}
+
+pub test-ahead : (c : ℕ) (u : Tile) → Test (u .corner < c) (isAhead c u)
+test-ahead c u = test-leb (suc (u .corner)) c
+
+pub test-inside : (c k : ℕ) (u : Tile) → Test ((c ≤ u .corner) × (stop u ≤ c + 4 ^ k)) (isInside c k u)
+test-inside c k u = test-and (test-leb c (u .corner)) (test-leb (stop u) (c + 4 ^ k))
+
+bit-le : {P : Type 0} {b : Bool} → Test P b → if b 1 0 ≤ 1
+unfolding if
+bit-le (holds p) = omega arith
+bit-le (fails p) = omega arith
+
+module _ {g : Tile → Bool} {P : Tile → Type 0} (test : (u : Tile) → Test (P u) (g u)) where
+  pub counted-yes : (u : Tile) (us : List Tile) → P u → counted g (u ∷ us) ≡ suc (counted g us)
+  unfolding counted
+  counted-yes u us p = omega (arith, if-yes {A = ℕ} 1 0 (test u) p)
+
+  pub counted-no : (u : Tile) (us : List Tile) → (P u → ⊥) → counted g (u ∷ us) ≡ counted g us
+  unfolding counted
+  counted-no u us p = omega (arith, if-no {A = ℕ} 1 0 (test u) p)
+
+  pub counted-le : (us : List Tile) → counted g us ≤ length us
+  unfolding counted
+  counted-le [] = omega arith
+  counted-le (u ∷ us) = omega (arith, bit-le (test u), counted-le us)
+
+  pub counted-none : (us : List Tile) → ((u : Tile) → u ∈ us → P u → ⊥) → counted g us ≡ 0
+  unfolding counted
+  counted-none [] out = refl
+  counted-none (u ∷ us) out = omega (arith, if-no {A = ℕ} 1 0 (test u) (out u (List·Memᴰ·head refl)), counted-none us (λ v i. out v (List·Memᴰ·tail i)))
+
+pub rising-from : {lo : ℕ} {u : Tile} {us : List Tile} → Rising lo us → u ∈ us → lo ≤ u .corner
+rising-from {lo} (link h r) (List·Memᴰ·head e) = rw e h
+rising-from (link h r) (List·Memᴰ·tail i) = let g = rising-from r i in omega arith
+
+pub rising-at : {lo : ℕ} {us : List Tile} (d : Tile) (i : ℕ) → Rising lo us → i < length us → lo ≤ getD us i d .corner
+rising-at d i end l = absurd (omega arith)
+rising-at d zero (link h r) l = h
+rising-at d (suc i) (link h r) l = let g = rising-at d i r (omega arith) in omega arith
+
+pub ahead-none : {lo : ℕ} {us : List Tile} (c : ℕ) → Rising lo us → c ≤ lo → counted (isAhead c) us ≡ 0
+ahead-none {us = us} c r h = counted-none (test-ahead c) us (λ u i l. omega (arith, rising-from r i))
+
+pub ahead-past : {lo : ℕ} {us : List Tile} (d : Tile) (i c : ℕ) → Rising lo us → i < length us → getD us i d .corner < c → i < counted (isAhead c) us
+ahead-past d i c end l h = absurd (omega arith)
+ahead-past d zero c (link {t = t} {ts = ts} p r) l h = omega (arith, counted-yes (test-ahead c) t ts h)
+ahead-past d (suc i) c (link {t = t} {ts = ts} p r) l h =
+    let g = rising-at d i r (omega arith) in
+    omega (arith, counted-yes (test-ahead c) t ts (omega arith), ahead-past d i c r (omega arith) h)
+
+pub ahead-upto : {lo : ℕ} {us : List Tile} (d : Tile) (i c : ℕ) → Rising lo us → i < length us → c ≤ getD us i d .corner → counted (isAhead c) us ≤ i
+ahead-upto d i c end l h = absurd (omega arith)
+ahead-upto d zero c (link {t = t} {ts = ts} p r) l h = omega (arith, ahead-none c (link {lo = t .corner} {t = t} (omega arith) r) h)
+ahead-upto d (suc i) c (link {t = t} {ts = ts} p r) l h = cons (ahead-upto d i c r (omega arith) h)
+  where
+    cons : counted (isAhead c) ts ≤ i → counted (isAhead c) (t ∷ ts) ≤ suc i
+    cons g = elim (decLt (t .corner) c) [
+      | yes b ↦ omega (arith, counted-yes (test-ahead c) t ts b)
+      | no b ↦ omega (arith, counted-no (test-ahead c) t ts b)
+    ]
+
+-- the same of a list in slots
+module _ (t : ℕ) (slots : List ℕ) (count : t ≤ length slots) (rising : Rising 0 (tilesIn t slots)) (i z : ℕ) (h : i < t) where
+  pub slot-past : tileOf (getD slots i 0) .corner < z → i < counted (isAhead z) (tilesIn t slots)
+  slot-past l = ahead-past (tileOf 0) i z rising (omega (arith, length-tilesIn t slots count)) (rw (tilesIn-at t slots i h) l)
+
+  pub slot-upto : z ≤ tileOf (getD slots i 0) .corner → counted (isAhead z) (tilesIn t slots) ≤ i
+  slot-upto l = ahead-upto (tileOf 0) i z rising (omega (arith, length-tilesIn t slots count)) (rw (tilesIn-at t slots i h) l)

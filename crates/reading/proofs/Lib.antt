@@ -1,0 +1,6 @@
+-- Laws of the searches.
+pub mod SlotTiles
+pub mod CountLaws
+pub mod LookupLaws
+pub mod InsideLaws
+pub mod PartLaws

@@ -1,0 +1,147 @@
+-- Laws of lookup.
+--     chain-rising         the corners of a chain rise
+--     shownBy us z i       what the last of the i tiles at the front of us shows at z
+--     accountAt-shownBy    where i tiles start by z, that is the account of the list
+--     test-pointIn         the test of check 31
+--     Point                what is known where lookup's checks are passed
+--     lookupCheck-passed   they are passed only there
+--     point-number         the Morton number by all bits of a column and a row is that of the order
+use mathlib.Core.Path.{_≡_, refl, sym, _∙_}
+use mathlib.Core.List.{List, _∷_}
+use Prim.Native.Nat.{ℕ, zero, suc, _+_, _*_, _%_, _^_, _≤_, _<_}
+use native.Mathlib.Nat.{pow-le-pow-right}
+use native.Mathlib.Decide.{decLt}
+use native.Mathlib.Omega.{arith}
+use lib.Dec.{ltb}
+use lib.ListN.{length, getD}
+use Rattle.basics.specs.Choice.{if}
+use Rattle.basics.proofs.Tests.{Test, test-leb, test-and}
+use Rattle.basics.proofs.ChoiceLaws.{if-yes, if-no}
+use Rattle.refusal.specs.Refusal.{accepted, pointOutside}
+use Rattle.refusal.proofs.CheckLaws.{must-on, must-off, must-inv, else-on, else-inv, unless-on, unless-off}
+use Rattle.morton.specs.Morton.{morton, sideBits}
+use Rattle.morton.proofs.MortonLaws.{morton-wide}
+use Rattle.tile.specs.Tile.{Tile, stop, tileOf, highestOrder}
+use Rattle.tile.specs.Slots.{tilesIn}
+use Rattle.tile.proofs.SlotsLaws.{length-tilesIn}
+use Rattle.quadtree.specs.Raster.{accountAt}
+use Rattle.quadtree.specs.Quadtree.{Rising}
+use Rattle.quadtree.specs.Quadtree as tree
+use Rattle.quadtree.specs.Valid.{Chain, end, link, Valid}
+use Rattle.quadtree.proofs.Alignment.{area-pos}
+use Rattle.quadtree.proofs.Shown.{accountAt-first, accountAt-rest}
+use Rattle.listcheck.specs.ListCheck.{listCheck}
+use Rattle.listcheck.proofs.Accepts.{listCheck-valid}
+use Rattle.reading.specs.Lookup.{pointIn, lookupCheck, lookupOf}
+use Rattle.reading.specs.Part.{isAhead, counted}
+use Rattle.reading.proofs.CountLaws.{test-ahead, counted-yes, counted-le, ahead-none}
+use Rattle.reading.proofs.SlotTiles.{tilesIn-at}
+
+rising-down : {lo hi : ℕ} {us : List Tile} → lo ≤ hi → Rising hi us → Rising lo us
+rising-down h tree.end = tree.end
+rising-down {lo} h (tree.link {t = t} p r) = tree.link {lo = lo} {t = t} (omega arith) r
+
+pub chain-rising : {n lo : ℕ} {us : List Tile} → Chain n lo us → Rising lo us
+chain-rising end = tree.end
+chain-rising (link {t = t} p r) = tree.link {t = t} (p .after) (rising-down (omega (arith, area-pos (t .size))) (chain-rising r))
+
+unfoldable pub shownBy : List Tile → ℕ → ℕ → ℕ
+shownBy us z zero = 0
+shownBy us z (suc j) = if (ltb z (stop (getD us j (tileOf 0)))) (getD us j (tileOf 0) .account) 0
+
+module _ {n : ℕ} (z : ℕ) where
+  -- nothing is shown before the chain starts
+  account-before : {lo : ℕ} {us : List Tile} → Chain n lo us → z < lo → accountAt us z ≡ 0
+  unfolding accountAt
+  account-before end l = refl
+  account-before (link {t = t} {ts = ts} p r) l = accountAt-rest t ts z (λ c. omega (arith, c .0, p .after)) ∙ account-before r (omega (arith, p .after))
+
+  pub accountAt-shownBy : {lo : ℕ} {us : List Tile} → Chain n lo us → accountAt us z ≡ shownBy us z (counted (isAhead (z + 1)) us)
+  unfolding accountAt counted shownBy
+  accountAt-shownBy end = refl
+  accountAt-shownBy {lo} (link {t = t} {ts = ts} p r) = go (decLt (t .corner) (z + 1)) (accountAt-shownBy r)
+    where
+      first : (k : ℕ) → k ≡ counted (isAhead (z + 1)) ts → t .corner ≤ z → accountAt ts z ≡ shownBy ts z k → accountAt (t ∷ ts) z ≡ shownBy (t ∷ ts) z (suc k)
+      first zero e b ih = elim (decLt z (stop t)) [
+        | yes c ↦ accountAt-first t ts z (b, c) ∙ sym (if-yes (t .account) 0 (test-leb (suc z) (stop t)) c)
+        | no c ↦ accountAt-rest t ts z (λ d. c (d .1)) ∙ ih ∙ sym (if-no (t .account) 0 (test-leb (suc z) (stop t)) c)
+      ]
+      first (suc j) e b ih = accountAt-rest t ts z (λ d. omega (arith, d .1, ahead-none (z + 1) (chain-rising r) (omega arith))) ∙ ih
+
+      go : Dec (t .corner < z + 1) → accountAt ts z ≡ shownBy ts z (counted (isAhead (z + 1)) ts) → accountAt (t ∷ ts) z ≡ shownBy (t ∷ ts) z (counted (isAhead (z + 1)) (t ∷ ts))
+      go (yes b) ih = rw (counted-yes (test-ahead (z + 1)) t ts b) (first (counted (isAhead (z + 1)) ts) refl (omega arith) ih)
+      go (no b) ih =
+          let q : Chain n (t .corner) (t ∷ ts) = link {lo = t .corner} {t = t} (record { quadrant = p .quadrant; after = omega arith }) r in
+          rw (ahead-none (z + 1) (chain-rising q) (omega arith)) (account-before q (omega arith))
+
+pub test-pointIn : (n c r : ℕ) → Test ((c < 2 ^ n) × (r < 2 ^ n)) (pointIn n c r)
+unfolding pointIn
+test-pointIn n c r = test-and (test-leb (suc c) (2 ^ n)) (test-leb (suc r) (2 ^ n))
+
+pub record Point (n t : ℕ) (slots : List ℕ) (c r : ℕ) : Type 0 where
+  pub order : n ≤ highestOrder
+  pub count : t ≤ length slots
+  pub valid : Valid n (tilesIn t slots)
+  pub column : c < 2 ^ n
+  pub row : r < 2 ^ n
+
+pub lookupCheck-passed : (n t : ℕ) (slots : List ℕ) (c r : ℕ) → lookupCheck n t slots c r ≡ accepted → Point n t slots c r
+unfolding lookupCheck
+lookupCheck-passed n t slots c r e =
+    let a = else-inv _ _ e in
+    let b = listCheck-valid n t slots .0 (a .0) in
+    let d = must-inv (test-pointIn n c r) (omega arith) (a .1) in
+    record { order = b .0; count = b .1; valid = b .2; column = d .0 .0; row = d .0 .1 }
+
+pub point-number : {n t : ℕ} {slots : List ℕ} {c r : ℕ} → Point n t slots c r → morton sideBits c r ≡ morton n c r
+point-number {n} {c = c} {r = r} p = morton-wide n sideBits c r (p .order) (p .column) (p .row)
+
+-- check 31 by how it ends, behind an accepted list
+pub lookupCheck-outside : (n t : ℕ) (slots : List ℕ) (c r : ℕ) → listCheck n t slots ≡ accepted → ((c < 2 ^ n) × (r < 2 ^ n) → ⊥) → pointOutside ≡ lookupCheck n t slots c r
+unfolding lookupCheck
+lookupCheck-outside n t slots c r e h = sym (else-on _ _ e ∙ must-off _ _ (test-pointIn n c r) h)
+
+pub lookupCheck-inside : (n t : ℕ) (slots : List ℕ) (c r : ℕ) → listCheck n t slots ≡ accepted → (c < 2 ^ n) × (r < 2 ^ n) → accepted ≡ lookupCheck n t slots c r
+unfolding lookupCheck
+lookupCheck-inside n t slots c r e h = sym (else-on _ _ e ∙ must-on _ _ (test-pointIn n c r) h)
+
+-- the order of an accepted list, as code meets it
+pub listCheck-order : (n t : ℕ) (slots : List ℕ) {x : ℕ} → x ≡ listCheck n t slots → x ≡ accepted → n ≤ highestOrder
+listCheck-order n t slots e h = listCheck-valid n t slots .0 (sym e ∙ h) .0
+
+-- 1 shifted by an order is the side of its bed
+pub shift-side : (n : ℕ) → n ≤ highestOrder → 1 * 2 ^ n % 2 ^ 32 ≡ 2 ^ n
+shift-side n h = let l : 2 ^ n ≤ 2 ^ highestOrder = pow-le-pow-right (omega arith) h in omega arith
+
+-- what the code finds in the slot of the last tile that starts by z
+module _ (t : ℕ) (slots : List ℕ) (count : t ≤ length slots) (z : ℕ) (valid : (n : ℕ) × Valid n (tilesIn t slots)) (s : ℕ) (started : s ≡ counted (isAhead (z + 1)) (tilesIn t slots)) where
+  shown : accountAt (tilesIn t slots) z ≡ shownBy (tilesIn t slots) z s
+  shown = rw started (accountAt-shownBy z (valid .1 .chain))
+
+  pub started-le : s ≤ t
+  started-le = omega (arith, counted-le (test-ahead (z + 1)) (tilesIn t slots), length-tilesIn t slots count)
+
+  pub account-none : s ≡ 0 → 0 ≡ accountAt (tilesIn t slots) z
+  unfolding shownBy
+  account-none e = sym (rw e at shown)
+
+  last-shown : (j : ℕ) → s ≡ suc j → accountAt (tilesIn t slots) z ≡ if (ltb z (stop (tileOf (getD slots j 0)))) (tileOf (getD slots j 0) .account) 0
+  unfolding shownBy
+  last-shown j e = rw (← tilesIn-at t slots j (omega (arith, started-le))) (rw e at shown)
+
+  pub account-past : (j : ℕ) → s ≡ suc j → stop (tileOf (getD slots j 0)) ≤ z → 0 ≡ accountAt (tilesIn t slots) z
+  account-past j e h = sym (last-shown j e ∙ if-no _ 0 (test-leb (suc z) (stop (tileOf (getD slots j 0)))) (λ l. omega arith))
+
+  pub account-last : (j : ℕ) → s ≡ suc j → z < stop (tileOf (getD slots j 0)) → tileOf (getD slots j 0) .account ≡ accountAt (tilesIn t slots) z
+  account-last j e h = sym (last-shown j e ∙ if-yes _ 0 (test-leb (suc z) (stop (tileOf (getD slots j 0)))) h)
+
+module _ (n t : ℕ) (slots : List ℕ) (c r : ℕ) where
+  pub lookupOf-refused : (x : ℕ) → x ≡ lookupCheck n t slots c r → (x ≡ accepted → ⊥) → record { number = x; account = 0 } ≡ lookupOf n t slots c r
+  unfolding lookupOf
+  lookupOf-refused x e h = rw (← e) (sym (unless-off x _ _ h))
+
+  pub lookupOf-found : (x z a : ℕ) → x ≡ lookupCheck n t slots c r → x ≡ accepted → z ≡ morton sideBits c r → a ≡ accountAt (tilesIn t slots) z → record { number = accepted; account = a } ≡ lookupOf n t slots c r
+  unfolding lookupOf
+  lookupOf-found x z a e h ez ea =
+      let q = point-number (lookupCheck-passed n t slots c r (sym e ∙ h)) in
+      rw (unless-on _ _ _ (sym e ∙ h), ← q, ← ez, ← ea)

@@ -1,0 +1,3 @@
+-- Laws of placement rights.
+pub mod TableLaws
+pub mod RightsLaws

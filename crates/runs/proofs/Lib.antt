@@ -1,0 +1,3 @@
+-- Laws of runs in slots.
+pub mod Told
+pub mod RunSteps

@@ -1,0 +1,1 @@
+// Laws of changed blocks in linear quadtrees; this crate has no code.
