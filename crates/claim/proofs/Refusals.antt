@@ -1,25 +1,21 @@
 -- The refusals of a claim, in their order.
 --     blockCheck n c k a     32 and 24 alone
---     blockCheck-outside, -inside   32, or what is left
---     mod-aligned            the code's test of alignment
 --     refusal-listed         a list that is refused decides
 --     refusal-checked        then 32 or 24
 --     checked-claimable      what has passed is claimable
 --     refusal-claimable      and only 25 is left
 --     claimOf-refused, -done   the answer and the storage, by the refusal
-use mathlib.Core.Path.{_≡_, _∙_, refl, ap, sym}
+use mathlib.Core.Path.{_≡_, _∙_, refl, sym}
 use mathlib.Core.Bool.{Bool, true, false}
 use mathlib.Core.List.{List}
-use mathlib.Core.Logic.{_↔_}
-use Prim.Native.Nat.{ℕ, suc, _/_, _%_, _^_, _≤_, _<_}
-use native.Mathlib.Nat.{div-add-mod', mul-mod-left}
+use Prim.Native.Nat.{ℕ, suc, _^_, _≤_, _<_}
 use native.Mathlib.Omega.{arith}
 use lib.Dec.{leb}
 use lib.ListN.{length}
 use Rattle.basics.proofs.Tests.{Test, test-leb, test-and}
 use Rattle.refusal.specs.Refusal.{accepted, accountTooLarge, slotsExceeded, blockInvalid}
 use Rattle.refusal.specs.Checks.{must, After}
-use Rattle.refusal.proofs.CheckLaws.{must-on, must-off, must-inv, else-on, else-off, unless-on, unless-off}
+use Rattle.refusal.proofs.CheckLaws.{must-on, must-inv, else-on, else-off, unless-on, unless-off}
 use Rattle.tile.specs.Tile.{Tile, highestAccount}
 use Rattle.tile.specs.Slots.{tilesIn, filled}
 use Rattle.quadtree.specs.Raster.{Aligned, accountAt}
@@ -38,21 +34,6 @@ test-blockIn n c k = test-and (test-leb k n) (test-and (test-leb (suc c) (4 ^ n)
 
 abbrev pub blockCheck : ℕ → ℕ → ℕ → ℕ → ℕ
 blockCheck n c k a = must (blockIn n c k) blockInvalid (must (leb a highestAccount) accountTooLarge accepted)
-
--- 32 by its three tests, then 24
-module _ (n c k a : ℕ) where
-  pub blockCheck-outside : ((k ≤ n) × ((c < 4 ^ n) × Aligned k c) → ⊥) → blockInvalid ≡ blockCheck n c k a
-  blockCheck-outside ne = sym (must-off blockInvalid _ (test-blockIn n c k) ne)
-
-  pub blockCheck-inside : k ≤ n → c < 4 ^ n → Aligned k c → blockCheck n c k a ≡ must (leb a highestAccount) accountTooLarge accepted
-  blockCheck-inside h l m = must-on blockInvalid _ (test-blockIn n c k) (h, (l, m))
-
--- the code's test of alignment
-pub mod-aligned : (k c side : ℕ) → side ≡ 4 ^ k → (c % side ≡ 0) ↔ Aligned k c
-mod-aligned k c side e = rw e (
-  λ z. record { times = c / 4 ^ k; is = omega (arith, div-add-mod' c (4 ^ k)) },
-  λ m. ap (λ (y : ℕ). y % 4 ^ k) (m .is) ∙ mul-mod-left (m .times) (4 ^ k),
-)
 
 -- what comes behind two checks does not matter where one of them refuses
 must-two : (b d : Bool) (r q rest : ℕ) → (must b r (must d q accepted) ≡ accepted → ⊥) → must b r (must d q rest) ≡ must b r (must d q accepted)

@@ -25,9 +25,9 @@ use Rattle.bed.specs.Bed.{claimed}
 use Rattle.plan.specs.declared.Planned.{Planned}
 use Rattle.plan.specs.Plan.{Claimable, Plans, inner}
 use Rattle.plan.proofs.Counts.{changes-pieces, changes-tiles}
+use Rattle.stores.specs.Stores.{Drawn, Opened}
 use Rattle.claim.specs.declared.Claimed.{Claimed}
 use Rattle.claim.specs.Claim.{claimOf}
-use Rattle.claim.specs.Stores.{Drawn, Opened}
 use Rattle.claim.proofs.MapLaws.{take-map, drop-map}
 use Rattle.claim.proofs.Refusals.{claimOf-refused, claimOf-done, refusal-claimable}
 

@@ -1,3 +1,2 @@
 -- Claims.
 pub mod Claim
-pub mod Stores

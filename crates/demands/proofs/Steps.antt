@@ -16,7 +16,7 @@ use Rattle.basics.proofs.Tests.{test-leb}
 use Rattle.basics.proofs.Tests as tests
 use Rattle.refusal.specs.Refusal.{accepted, orderTooLarge, scannedTooLarge, tileUnscanned, blockInvalid}
 use Rattle.refusal.specs.Checks.{must, unless}
-use Rattle.refusal.proofs.CheckLaws.{must-on, must-off, must-inv, else-on, else-inv}
+use Rattle.refusal.proofs.CheckLaws.{must-on, must-off, must-inv, else-on}
 use Rattle.tile.specs.Tile.{Tile, tileOf, highestOrder, highestAccount}
 use Rattle.tile.specs.Slots.{filled}
 use Rattle.tile.proofs.TileLaws.{tileOf-account}
@@ -26,9 +26,6 @@ use Rattle.quadtree.specs.Quadtree.{quadtree, single}
 use Rattle.quadtree.specs.Valid.{Valid}
 use Rattle.quadtree.proofs.Blocks.{blocks-uniform}
 use Rattle.quadtree.proofs.ValidLaws.{quadtree-cong, valid-quadtree}
-use Rattle.listcheck.specs.ListCheck.{wordsCheck}
-use Rattle.listcheck.proofs.OneWord.{wordCheck-rest}
-use Rattle.listcheck.proofs.Accepts.{wordsCheck-valid}
 use Rattle.bed.specs.declared.Kind.{Kind}
 use Rattle.bed.specs.declared.Kind.the-variants.{Rows}
 use Rattle.bed.specs.Places.{scanOf}
@@ -38,40 +35,12 @@ use Rattle.bed.proofs.BedLaws.{Good, bedOf, paint-agree, paint-accounts, claimC
 use Rattle.scan.specs.FreshScan.{freshOf}
 use Rattle.scan.specs.Feed.{opening, fedTo, feedOf}
 use Rattle.claim.specs.Claim.{claimRefusal, claimOf}
-use Rattle.mapfile.specs.Reader.{wordAt, wordsAt, tilesCheck, fileCheck, fileOrder, fileCount, fileWords, readOf, readBed}
+use Rattle.reader.specs.Reader.{fileCheck, fileOrder, fileCount, fileWords, readOf, readBed}
+use Rattle.reader.proofs.ReaderLaws.{Accepted, readOf-valid}
 use Rattle.demands.specs.Calls.{Call, fresh, feed, claim, read, answer, State, Step, PlainStep, step, plainStep, plainFed, afterFresh, afterFeed, afterClaim, afterRead, Begins}
 use Rattle.demands.specs.Demands.{listIn}
 use Rattle.demands.proofs.Kept.{keptBy, Kept, kept-list, kept-length, kept-check, kept-shown}
 use Rattle.demands.proofs.Unscanned.{unscanned-alike}
-
-pub record Accepted (m : ℕ) (bs : List ℕ) : Type 0 where
-  pub order : fileOrder bs ≤ highestOrder
-  pub count : length (fileWords bs) ≡ fileCount bs
-  pub room : fileCount bs ≤ m
-  pub valid : Valid (fileOrder bs) (map tileOf (fileWords bs))
-
-words-accepted : (n t : ℕ) (seen : List Tile) (bs : List ℕ) (p : ℕ) → tilesCheck n t seen bs p ≡ accepted → wordsCheck n seen (wordsAt t bs p) ≡ accepted
-unfolding tilesCheck wordsCheck wordsAt
-words-accepted n zero seen bs p e = refl
-words-accepted n (suc t) seen bs p e =
-    let a = must-inv (test-leb (p + 4) (length bs)) (omega arith) e in
-    let b = else-inv _ _ (sym (wordCheck-rest n seen (wordAt bs p) _) ∙ a .1) in
-    wordCheck-rest n seen (wordAt bs p) _ ∙ else-on _ _ (b .0) ∙ words-accepted n t (tileOf (wordAt bs p) ∷ seen) bs (p + 4) (b .1)
-
-length-wordsAt : (t : ℕ) (bs : List ℕ) (p : ℕ) → length (wordsAt t bs p) ≡ t
-unfolding wordsAt
-length-wordsAt zero bs p = refl
-length-wordsAt (suc t) bs p = ap suc (length-wordsAt t bs (p + 4))
-
-file-accepted : (m : ℕ) (bs : List ℕ) → fileCheck m bs ≡ accepted → Accepted m bs
-unfolding fileCheck
-file-accepted m bs e =
-    let a = must-inv (test-leb 1 (length bs)) (omega arith) e in
-    let b = must-inv (test-leb (fileOrder bs) highestOrder) (omega arith) (a .1) in
-    let c = must-inv (test-leb 5 (length bs)) (omega arith) (b .1) in
-    let d = must-inv (test-leb (fileCount bs) m) (omega arith) (c .1) in
-    let t = else-inv _ _ (d .1) in
-    record { order = b .0; count = length-wordsAt (fileCount bs) bs 5; room = d .0; valid = wordsCheck-valid (fileOrder bs) (b .0) (fileWords bs) .0 (words-accepted (fileOrder bs) (fileCount bs) [] bs 5 (t .0)) }
 
 pub record Agrees (m : ℕ) (p : Step) (q : PlainStep) : Type 0 where
   pub answer : p .answer ≡ q .answer
@@ -182,13 +151,13 @@ module _ (m : ℕ) (s : State) (slots : length (s .slots) ≡ m) (b : Bed) (byte
   read-kept : Accepted m bytes → Kept m (record { scan = scanOf Rows (fileOrder bytes) (4 ^ fileOrder bytes) (fileCount bytes); slots = fileWords bytes ++ replicate (m - fileCount bytes) 0 }) (readBed bytes)
   unfolding tiles filled
   read-kept r = record {
-    is = rw (read-list (r .valid), words-tiles (fileWords bytes), length-map (fileWords bytes) tileOf, r .count);
-    good = record { order = r .order; scanned = le-refl _; accounts = λ z h. account-shown (fileWords bytes) z; room = rw (read-list (r .valid), length-map (fileWords bytes) tileOf, r .count) (r .room) };
+    is = rw (read-list (r .valid), words-tiles (fileWords bytes), length-map (fileWords bytes) tileOf, r .length-words);
+    good = record { order = r .order; scanned = le-refl _; accounts = λ z h. account-shown (fileWords bytes) z; room = rw (read-list (r .valid), length-map (fileWords bytes) tileOf, r .length-words) (r .count) };
   }
 
   pub read-begins : Agrees m (step s (read bytes)) (plainStep m b (read bytes))
   unfolding step plainStep afterRead readOf unless
-  read-begins = rw (slots, e) (record { answer = refl; kept = read-kept (file-accepted m bytes e) })
+  read-begins = rw (slots, e) (record { answer = refl; kept = read-kept (readOf-valid m bytes e) })
 
 read-refused : (m : ℕ) (s : State) (b : Bed) (bytes : List ℕ) (r : ℕ) → length (s .slots) ≡ m → Kept m s b → fileCheck m bytes ≡ suc r → Agrees m (step s (read bytes)) (plainStep m b (read bytes))
 unfolding step plainStep afterRead readOf unless

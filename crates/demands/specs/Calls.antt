@@ -9,7 +9,7 @@
 --     Begins m c        c is a fresh scan or a reading that is accepted with m slots
 use mathlib.Core.Path.{_≡_}
 use mathlib.Core.List.{List, [], _∷_}
-use Prim.Native.Nat.{ℕ, _+_, _^_, _≤_}
+use Prim.Native.Nat.{ℕ, _^_, _≤_}
 use lib.Dec.{leb}
 use Rattle.refusal.specs.Refusal.{accepted, orderTooLarge}
 use Rattle.refusal.specs.Checks.{must, unless, After}
@@ -26,8 +26,8 @@ use Rattle.scan.specs.FreshScan.{freshOf}
 use Rattle.scan.specs.Feed.{feedOf}
 use Rattle.claim.specs.declared.Claimed.{Claimed}
 use Rattle.claim.specs.Claim.{claimOf}
-use Rattle.mapfile.specs.declared.Reading.{Reading}
-use Rattle.mapfile.specs.Reader.{readOf, readBed, fileCheck}
+use Rattle.reader.specs.declared.Reading.{Reading}
+use Rattle.reader.specs.Reader.{readOf, readBed, fileCheck}
 
 pub data Call : Type 0 where
   fresh : Kind → ℕ → Call

@@ -26,7 +26,8 @@ use Rattle.splicing.proofs.Index.{At}
 use Rattle.splicing.proofs.Splice.{Alone, quadtree-splice}
 use Rattle.splicing.proofs.Split.{Split, split-alone, split-self, single-some}
 use Rattle.bed.specs.Bed.{claimed}
-use Rattle.plan.specs.Plan.{Claimable, Stands, Merges, Changes}
+use Rattle.joining.specs.Standing.{Stands, Merges}
+use Rattle.plan.specs.Plan.{Claimable, Changes}
 
 module _ {n : ℕ} {ts : List Tile} {c k a : ℕ} (q : Claimable n ts c k a) where
   abbrev g : ℕ → ℕ

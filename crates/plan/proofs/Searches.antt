@@ -15,7 +15,8 @@ use Rattle.quadtree.proofs.Tiling.{Tiling}
 use Rattle.quadtree.proofs.ValidLaws.{valid-tiling}
 use Rattle.splicing.proofs.Index.{tiling-placed, tiling-rising, Upto, tiling-cut-at, At, tiling-at}
 use Rattle.bed.specs.Bed.{claimed}
-use Rattle.plan.specs.Plan.{Claimable, FirstPast, Covered, Stands, Changes}
+use Rattle.joining.specs.Standing.{Stands}
+use Rattle.plan.specs.Plan.{Claimable, FirstPast, Covered, Changes}
 use Rattle.plan.proofs.Cases.{claimable-room, kept-changes, split-changes, cleared-changes, claimed-stands}
 
 -- what a search says of the tiles

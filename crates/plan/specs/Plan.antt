@@ -1,24 +1,18 @@
 -- What a claim changes in a valid list, found without a store: the facts that the functions hand on. Definitions only.
 --     Claimable n ts c k a          the checks that come before a claim have passed: ts is valid, the block a quadrant, the account an account
---     Block c k                     the block of size k at the corner c is a quadrant of the largest bed
 --     FirstPast s from x r          r is the first index from `from` on whose tile stops past x, or the length
---     placeOf c k, parentOf c k     which quadrant of its parent the block is, and the parent's corner
---     Beside ts lo hi c k a         the three siblings of the tile of size k and account a at c stand ahead of lo and from hi on
---     Stands g n ts a lo hi c k     in the raster g the tile of size k and account a at c stands in place of the tiles from lo up to hi
---     Merges g n ts a lo hi c k     and its siblings do not all stand beside it
 --     Covered s lo c k              the tile at lo is larger than the block and does not start behind its corner
 --     Changes n ts c k a r          the change r makes of ts the linear quadtree after the claim
 --     inner a                       how many tiles a block of the account a has: one, and none for nobody's
 --     Plans n ts c k a r            r is such a change with its two counts
 use mathlib.Core.Path.{_≡_}
 use mathlib.Core.List.{List, _++_}
-use Prim.Native.Nat.{ℕ, zero, suc, _+_, _-_, _*_, _/_, _%_, _^_, _≤_, _<_}
+use Prim.Native.Nat.{ℕ, zero, suc, _+_, _-_, _^_, _≤_, _<_}
 use lib.ListN.{length, take, drop, getD}
-use Rattle.tile.specs.Tile.{Tile, tile, stop, tileOf, highestOrder, highestAccount}
+use Rattle.tile.specs.Tile.{Tile, stop, tileOf, highestOrder, highestAccount}
 use Rattle.quadtree.specs.Raster.{Aligned, accountAt}
 use Rattle.quadtree.specs.Quadtree.{blocks, quadtree}
 use Rattle.quadtree.specs.Valid.{Valid}
-use Rattle.quadtree.proofs.Merge.{tileRun, Between, Apart}
 use Rattle.splicing.proofs.Split.{Split}
 use Rattle.bed.specs.Bed.{claimed}
 use Rattle.plan.specs.declared.Change.{Change}
@@ -32,37 +26,11 @@ pub record Claimable (n : ℕ) (ts : List Tile) (c k a : ℕ) : Type 0 where
   pub aligned : Aligned k c
   pub account : a ≤ highestAccount
 
-pub record Block (c k : ℕ) : Type 0 where
-  pub size : k ≤ highestOrder
-  pub aligned : Aligned k c
-  pub room : c + 4 ^ k ≤ 4 ^ highestOrder
-
 pub record FirstPast (s : List ℕ) (from x r : ℕ) : Type 0 where
   pub low : from ≤ r
   pub high : r ≤ length s
   pub ahead : from < r → stop (tileOf (getD s (r - 1) 0)) ≤ x
   pub past : r < length s → x < stop (tileOf (getD s r 0))
-
-abbrev pub placeOf : ℕ → ℕ → ℕ
-placeOf c k = c / 4 ^ k % 4
-
-abbrev pub parentOf : ℕ → ℕ → ℕ
-parentOf c k = c - placeOf c k * 4 ^ k
-
-pub record Beside (ts : List Tile) (lo hi c k a : ℕ) : Type 0 where
-  pub left : placeOf c k ≤ lo
-  pub right : 3 - placeOf c k ≤ length ts - hi
-  pub ahead : take (placeOf c k) (drop (lo - placeOf c k) ts) ≡ tileRun k a (placeOf c k) (parentOf c k)
-  pub behind : take (3 - placeOf c k) (drop hi ts) ≡ tileRun k a (3 - placeOf c k) (c + 4 ^ k)
-
-pub record Stands (g : ℕ → ℕ) (n : ℕ) (ts : List Tile) (a lo hi c k : ℕ) : Type 0 where
-  pub order : lo ≤ hi
-  pub within : hi ≤ length ts
-  pub between : Between g n (take lo ts) (drop hi ts) (tile c k a)
-
-pub record Merges (g : ℕ → ℕ) (n : ℕ) (ts : List Tile) (a lo hi c k : ℕ) : Type 0 where
-  pub stands : Stands g n ts a lo hi c k
-  pub apart : Apart (take lo ts) (drop hi ts) (tile c k a)
 
 pub record Covered (s : List ℕ) (lo c k : ℕ) : Type 0 where
   pub some : lo < length s

@@ -6,9 +6,7 @@ ghost use lib.ListN.{length};
 ghost use Rattle.basics.proofs.Tests.{Test};
 ghost use Rattle.tile.specs.Tile.{tileOf, highestOrder};
 ghost use Rattle.tile.specs.Slots.{tilesIn};
-ghost use Rattle.quadtree.specs.Raster.{accountAt};
-ghost use Rattle.bed.specs.Bed.{claimed};
-ghost use Rattle.plan.specs.Plan.{Claimable, Block, FirstPast, Beside, Stands, Merges, Covered, Changes, inner, Plans};
+ghost use Rattle.plan.specs.Plan.{Claimable, FirstPast, Covered, Changes, inner, Plans};
 
 // The tiles from `lo` up to `hi` give way to those of the block of size `top` at the corner `first`, in which the block of size `size`
 // at `corner` has the claimed account and the rest is the owner's.
@@ -29,14 +27,6 @@ pub struct Planned {
     pub tiles: usize,
 }
 
-// A tile of size `size` at `corner` in place of the tiles from `lo` up to `hi`.
-pub struct Merged {
-    pub lo: usize,
-    pub hi: usize,
-    pub corner: u32,
-    pub size: u32,
-}
-
 // The first index from `from` on whose tile stops past x, or the length.
 fn first_past(list: &[u32], from: usize, x: u32) -> usize
     requires { ⌜ from ≤ length (now list) ⌝ }
@@ -53,68 +43,6 @@ fn first_past(list: &[u32], from: usize, x: u32) -> usize
         }
     }
     a
-}
-
-// Do the three siblings of a tile stand ahead of lo and from hi on?
-fn beside(list: &[u32], lo: usize, hi: usize, corner: u32, size: u32, account: u8) -> bool
-    requires { ⌜ (lo ≤ length (now list)) × (hi ≤ length (now list)) × Block corner size ⌝ }
-    ensures { λ r. ⌜ Test (Beside (map tileOf (now (list .entry))) lo hi corner size account) r ⌝ }
-{
-    let side = tile::area(size);
-    let place = (corner / side) % 4;
-    let before = place as usize;
-    let after = 3 - before;
-    if lo < before {
-        return false;
-    }
-    if list.len() - hi < after {
-        return false;
-    }
-    if !runs::is_run(
-        list,
-        lo - before,
-        before,
-        corner - place * side,
-        size,
-        account,
-    ) {
-        return false;
-    }
-    runs::is_run(list, hi, after, corner + side, size, account)
-}
-
-// Merges a tile in place of those from lo up to hi with its siblings on both sides, over as many levels as they are all there.
-fn merge(
-    order: u32,
-    list: &[u32],
-    lo: usize,
-    hi: usize,
-    corner: u32,
-    size: u32,
-    account: u8,
-) -> Merged
-    requires { ⌜ (order ≤ highestOrder) × Stands (claimed (accountAt (map tileOf (now list))) corner size account) order (map tileOf (now list)) account lo hi corner size ⌝ }
-    ensures { λ r. ⌜ Merges (claimed (accountAt (map tileOf (now (list .entry)))) corner size account) order (map tileOf (now (list .entry))) account (r .lo) (r .hi) (r .corner) (r .size) ⌝ }
-{
-    let mut from = lo;
-    let mut to = hi;
-    let mut c = corner;
-    let mut k = size;
-    while beside(list, from, to, c, k, account) {
-        let side = tile::area(k);
-        let place = (c / side) % 4;
-        let before = place as usize;
-        from -= before;
-        to += 3 - before;
-        c -= place * side;
-        k += 1;
-    }
-    Merged {
-        lo: from,
-        hi: to,
-        corner: c,
-        size: k,
-    }
 }
 
 // Is the tile at lo larger than the block, and does it not start behind its corner?
@@ -186,7 +114,7 @@ fn find_change(order: u32, list: &[u32], corner: u32, size: u32, account: u8) ->
             owner: 0,
         };
     }
-    let r = merge(order, list, lo, hi, corner, size, account);
+    let r = joining::merge(order, list, lo, hi, corner, size, account);
     Change {
         lo: r.lo,
         hi: r.hi,

@@ -6,7 +6,7 @@
 --     ahead-none                   no tile lies ahead of where the list starts
 --     ahead-past, ahead-upto       what the tile at i says of how many are ahead
 --     slot-past, slot-upto         what the tile in slot i says of it
-use mathlib.Core.Path.{_≡_, refl, _∙_}
+use mathlib.Core.Path.{_≡_, refl}
 use mathlib.Core.Bool.{Bool}
 use mathlib.Core.List.{List, [], _∷_, List·Memᴰ·head, List·Memᴰ·tail}
 use Prim.Native.Nat.{ℕ, zero, suc, _+_, _^_, _≤_, _<_}

@@ -1,21 +1,21 @@
+-- Row 31's two tests stand behind the list's checks, which bound the order.
 use Rattle.refusal.proofs.CheckLaws.{else-off}
 use Rattle.reading.specs.Lookup.{lookupCheck}
 use Rattle.reading.proofs.LookupLaws.{listCheck-order, shift-side, lookupCheck-outside, lookupCheck-inside}
 use mathlib.Core.Path.{_∙_, sym}
-use Prim.Native.Nat.{_-_}
 use native.Mathlib.Omega.{arith}
 use borrow.Author.Needs.{needs}
 use Rattle.reading.proofs.lookup_check.Statement.{statement}
 use Rattle.reading.proofs.lookup_check.Tie as tie
-
--- Row 31's two tests stand behind the list's checks, which bound the order.
 
 returns : tie.Need-returns
 unfolding lookupCheck
 returns c = rw (sym (c .before .check .ensures)) (sym (else-off _ _ (c .if1 .taken)))
 
 shl-side : tie.Need-shl-side
-shl-side c = omega (arith, listCheck-order (c .before .before .before .args .order) (c .before .before .before .args .tiles) (c .before .before .before .args .slots .now) (c .before .check .ensures) (c .if1 .left))
+shl-side c =
+    let s = c .before .before .before in
+    omega (arith, listCheck-order (s .args .order) (s .args .tiles) (s .args .slots .now) (c .before .check .ensures) (c .if1 .left))
 
 returns-2 : tie.Need-returns-2
 returns-2 c =

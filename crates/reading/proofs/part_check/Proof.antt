@@ -1,3 +1,4 @@
+-- Row 32's three tests stand behind the list's checks, which bound the order.
 use borrow.Author.Tests.{lt-ltb, le-ltb, lt-leb, le-leb, eq-eqb, ne-eqb}
 use Rattle.refusal.specs.Checks.{must}
 use Rattle.refusal.proofs.CheckLaws.{else-on, else-off}
@@ -7,13 +8,10 @@ use Rattle.bed.specs.Bed.{blockIn}
 use Rattle.reading.specs.Part.{partCheck}
 use Rattle.reading.proofs.LookupLaws.{listCheck-order}
 use mathlib.Core.Path.{_∙_, sym}
-use Prim.Native.Nat.{_-_}
 use native.Mathlib.Omega.{arith}
 use borrow.Author.Needs.{needs}
 use Rattle.reading.proofs.part_check.Statement.{statement}
 use Rattle.reading.proofs.part_check.Tie as tie
-
--- Row 32's three tests stand behind the list's checks, which bound the order.
 
 returns : tie.Need-returns
 unfolding partCheck
@@ -24,14 +22,18 @@ unfolding partCheck blockIn aligned must
 returns-2 c = rw (else-on _ _ (sym (c .before .before .check .ensures) ∙ c .before .if1 .left)) (simp (lt-leb _ _ (c .if2 .taken)))
 
 area-requires : tie.Need-area-requires
-area-requires c κs = omega (arith, listCheck-order (c .before .before .before .before .args .order) (c .before .before .before .before .args .tiles) (c .before .before .before .before .args .slots .now) (c .before .before .check .ensures) (c .before .if1 .left))
+area-requires c κs =
+    let s = c .before .before .before .before in
+    omega (arith, listCheck-order (s .args .order) (s .args .tiles) (s .args .slots .now) (c .before .before .check .ensures) (c .before .if1 .left))
 
 returns-3 : tie.Need-returns-3
 unfolding partCheck blockIn aligned must
 returns-3 c = rw (else-on _ _ (sym (c .before .before .before .before .check .ensures) ∙ c .before .before .before .if1 .left)) (simp (le-leb _ _ (c .before .before .if2 .left), sym (c .before .area .ensures), le-ltb _ _ (c .if3 .taken)))
 
 area-requires-2 : tie.Need-area-requires-2
-area-requires-2 c κs = omega (arith, listCheck-order (c .before .before .before .before .before .before .args .order) (c .before .before .before .before .before .before .args .tiles) (c .before .before .before .before .before .before .args .slots .now) (c .before .before .before .before .check .ensures) (c .before .before .before .if1 .left))
+area-requires-2 c κs =
+    let s = c .before .before .before .before .before .before in
+    omega (arith, listCheck-order (s .args .order) (s .args .tiles) (s .args .slots .now) (c .before .before .before .before .check .ensures) (c .before .before .before .if1 .left))
 
 rem-if4 : tie.Need-rem-if4
 rem-if4 c = omega (arith, area-pos (c .before .before .before .before .before .before .before .args .size), c .area2 .ensures)

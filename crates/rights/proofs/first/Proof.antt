@@ -1,10 +1,8 @@
+-- A refusal stays, else the later one decides.
 use Rattle.refusal.proofs.CheckLaws.{else-on, else-off}
 use mathlib.Core.Path.{sym}
-use Prim.Native.Nat.{_-_}
 use Rattle.rights.proofs.first.Statement.{statement}
 use Rattle.rights.proofs.first.Tie as tie
-
--- A refusal stays, else the later one decides.
 
 returns : tie.Need-returns
 returns c = sym (else-off _ _ (c .if1 .taken))

@@ -1,24 +1,27 @@
+-- Behind the checks of lookup and row 34 the table answers for the account that lookup's core finds.
 use Rattle.morton.specs.Morton.{sideBits}
 use Rattle.morton.proofs.MortonLaws.{morton-lt}
 use Rattle.rights.proofs.RightsLaws.{rightsCheck-first, rights-point, rightsOf-refused, rightsOf-answer}
-use Prim.Native.Nat.{_-_}
 use native.Mathlib.Omega.{arith}
 use borrow.Author.Needs.{needs}
 use Rattle.rights.proofs.rights.Statement.{statement}
 use Rattle.rights.proofs.rights.Tie as tie
 
--- Behind the checks of lookup and row 34 the table answers for the account that lookup's core finds.
-
 returns : tie.Need-returns
-returns c = rightsOf-refused (c .before .before .before .before .before .args .order) (c .before .before .before .before .before .args .tiles) (c .before .before .before .before .before .args .slots .now) (c .before .before .before .before .before .args .column) (c .before .before .before .before .before .args .row) (c .before .before .before .before .before .args .asking) (c .before .first .result) (rightsCheck-first (c .before .before .before .before .before .args .order) (c .before .before .before .before .before .args .tiles) (c .before .before .before .before .before .args .slots .now) (c .before .before .before .before .before .args .column) (c .before .before .before .before .before .args .row) (c .before .before .before .before .before .args .asking) _ _ _ (c .before .before .before .lookup-check .ensures) (c .before .before .asker-check .ensures) (c .before .first .ensures)) (c .if1 .taken)
+returns c =
+    let s = c .before .before .before .before .before in
+    rightsOf-refused (s .args .order) (s .args .tiles) (s .args .slots .now) (s .args .column) (s .args .row) (s .args .asking) (c .before .first .result) (rightsCheck-first (s .args .order) (s .args .tiles) (s .args .slots .now) (s .args .column) (s .args .row) (s .args .asking) _ _ _ (c .before .before .before .lookup-check .ensures) (c .before .before .asker-check .ensures) (c .before .first .ensures)) (c .if1 .taken)
 
 account-at-requires : tie.Need-account-at-requires
 account-at-requires c κs =
-    let p = rights-point (c .before .before .before .before .before .before .args .order) (c .before .before .before .before .before .before .args .tiles) (c .before .before .before .before .before .before .args .slots .now) (c .before .before .before .before .before .before .args .column) (c .before .before .before .before .before .before .args .row) (c .before .before .before .before .before .before .args .asking) (c .before .before .first .result) (rightsCheck-first (c .before .before .before .before .before .before .args .order) (c .before .before .before .before .before .before .args .tiles) (c .before .before .before .before .before .before .args .slots .now) (c .before .before .before .before .before .before .args .column) (c .before .before .before .before .before .before .args .row) (c .before .before .before .before .before .before .args .asking) _ _ _ (c .before .before .before .before .lookup-check .ensures) (c .before .before .before .asker-check .ensures) (c .before .before .first .ensures)) (c .before .if1 .left) in
-    (omega (arith, c .number .ensures, morton-lt sideBits (c .before .before .before .before .before .before .args .column) (c .before .before .before .before .before .before .args .row)), p .count, (c .before .before .before .before .before .before .args .order, p .valid))
+    let s = c .before .before .before .before .before .before in
+    let p = rights-point (s .args .order) (s .args .tiles) (s .args .slots .now) (s .args .column) (s .args .row) (s .args .asking) (c .before .before .first .result) (rightsCheck-first (s .args .order) (s .args .tiles) (s .args .slots .now) (s .args .column) (s .args .row) (s .args .asking) _ _ _ (c .before .before .before .before .lookup-check .ensures) (c .before .before .before .asker-check .ensures) (c .before .before .first .ensures)) (c .before .if1 .left) in
+    (omega (arith, c .number .ensures, morton-lt sideBits (s .args .column) (s .args .row)), p .count, (s .args .order, p .valid))
 
 returns-2 : tie.Need-returns-2
-returns-2 c = rightsOf-answer (c .before .before .before .before .before .before .before .before .args .order) (c .before .before .before .before .before .before .before .before .args .tiles) (c .before .before .before .before .before .before .before .before .args .slots .now) (c .before .before .before .before .before .before .before .before .args .column) (c .before .before .before .before .before .before .before .before .args .row) (c .before .before .before .before .before .before .before .before .args .asking) (c .before .before .before .before .first .result) (rightsCheck-first (c .before .before .before .before .before .before .before .before .args .order) (c .before .before .before .before .before .before .before .before .args .tiles) (c .before .before .before .before .before .before .before .before .args .slots .now) (c .before .before .before .before .before .before .before .before .args .column) (c .before .before .before .before .before .before .before .before .args .row) (c .before .before .before .before .before .before .before .before .args .asking) _ _ _ (c .before .before .before .before .before .before .lookup-check .ensures) (c .before .before .before .before .before .asker-check .ensures) (c .before .before .before .before .first .ensures)) _ _ _ (c .before .before .before .if1 .left) (c .before .before .number .ensures) (c .before .account-at .ensures) (c .may-place .ensures)
+returns-2 c =
+    let s = c .before .before .before .before .before .before .before .before in
+    rightsOf-answer (s .args .order) (s .args .tiles) (s .args .slots .now) (s .args .column) (s .args .row) (s .args .asking) (c .before .before .before .before .first .result) (rightsCheck-first (s .args .order) (s .args .tiles) (s .args .slots .now) (s .args .column) (s .args .row) (s .args .asking) _ _ _ (c .before .before .before .before .before .before .lookup-check .ensures) (c .before .before .before .before .before .asker-check .ensures) (c .before .before .before .before .first .ensures)) _ _ _ (c .before .before .before .if1 .left) (c .before .before .number .ensures) (c .before .account-at .ensures) (c .may-place .ensures)
 
 pub rights-spec : {M : Type 1} → statement M
 rights-spec = tie.close (tie.spec (λ c κs. search needs) (λ c κs. search needs) (λ c κs. search needs) returns (λ c κs. search needs) account-at-requires (λ c κs. search needs) returns-2)

@@ -1,0 +1,2 @@
+-- Laws of the numbers in bytes.
+pub mod ItemsLaws

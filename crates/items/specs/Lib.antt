@@ -1,0 +1,2 @@
+-- The numbers in the bytes of a map file.
+pub mod Items

@@ -1,4 +1,0 @@
--- The map file.
-pub mod Roster
-pub mod Writer
-pub mod Reader

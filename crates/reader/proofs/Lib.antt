@@ -1,0 +1,4 @@
+-- Laws of the reader.
+pub mod InTurn
+pub mod ReaderLaws
+pub mod Stores

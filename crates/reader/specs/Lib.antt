@@ -1,0 +1,2 @@
+-- The reader of a map file.
+pub mod Reader

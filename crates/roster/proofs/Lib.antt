@@ -1,0 +1,3 @@
+-- Laws of the roster.
+pub mod CoveredLaws
+pub mod RosterLaws

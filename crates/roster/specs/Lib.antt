@@ -1,0 +1,2 @@
+-- The roster.
+pub mod Roster

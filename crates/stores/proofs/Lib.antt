@@ -1,0 +1,3 @@
+-- Laws of the stores of a claim.
+pub mod Room
+pub mod Levels

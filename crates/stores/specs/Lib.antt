@@ -1,0 +1,2 @@
+-- Stores of a claim.
+pub mod Stores

@@ -1,0 +1,4 @@
+-- Laws of the writer.
+pub mod Puts
+pub mod Passes
+pub mod WriterLaws

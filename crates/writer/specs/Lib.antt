@@ -1,0 +1,3 @@
+-- The writer of a map file.
+pub mod Writer
+pub mod OneEntry
