@@ -18,8 +18,8 @@ use Rattle.items.specs.Items.{wordAt, wordsAt}
 use Rattle.items.proofs.ItemsLaws.{wordAt-drop, word-whole}
 use Rattle.roster.specs.Roster.{Entry, rosterGood}
 use Rattle.rostercheck.specs.RosterCheck.{entriesAt, rosterCheck}
-use Rattle.writer.specs.Writer.{wordBytes, wordsBytes, entriesBytes}
-use Rattle.writer.proofs.Passes.{length-entriesBytes}
+use Rattle.sections.specs.Sections.{wordBytes, wordsBytes, entriesBytes}
+use Rattle.sections.proofs.Passes.{length-entriesBytes}
 
 -- a word at p, behind which the rest stands
 word-back : (w : ℕ) (bs rest : List ℕ) (p : ℕ) → w < 2 ^ 32 → drop p bs ≡ wordBytes w ++ rest → wordAt bs p ≡ w

@@ -30,7 +30,8 @@ use Rattle.roster.proofs.RosterLaws.{rosterOf-good, rosterOf-pixels}
 use Rattle.rostercheck.specs.RosterCheck.{rosterCheck}
 use Rattle.reader.specs.Reader.{tilesCheck, fileOrder, fileCount, fileCheck, readOf}
 use Rattle.reader.proofs.ReaderLaws.{tilesCheck-words, readOf-accepted}
-use Rattle.writer.specs.Writer.{wordsBytes, entriesBytes, fileOf, writeCheck, writeOf}
+use Rattle.sections.specs.Sections.{wordsBytes, entriesBytes}
+use Rattle.writer.specs.Writer.{fileOf, writeCheck, writeOf}
 use Rattle.writer.proofs.WriterLaws.{length-wordsBytes, fileOf-bytes, writeOf-accepted}
 use Rattle.mapfile.proofs.Back.{words-back, roster-back}
 

@@ -4,6 +4,7 @@
 --     first-at         a tile stands behind all that start ahead of it
 --     chain-apart      a tile that starts behind another starts where that one stops, or further on
 --     Block            what is known where quadrant part's checks are passed; partCheck-passed, they are passed only there
+--     to-le            a list has no more tiles ahead of a number than tiles
 --     inside-none, inside-large, inside-rest   how many tiles lie inside, by the tile at the part's position
 --     partOf-refused, partOf-accepted   the companion's answer; partOf-fits, the part lies in the slots
 --     sliceOf-cut      the part itself, cut out of the slots

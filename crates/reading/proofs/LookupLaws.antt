@@ -1,11 +1,15 @@
 -- Laws of lookup.
---     chain-rising         the corners of a chain rise
---     shownBy us z i       what the last of the i tiles at the front of us shows at z
---     accountAt-shownBy    where i tiles start by z, that is the account of the list
---     test-pointIn         the test of check 31
---     Point                what is known where lookup's checks are passed
---     lookupCheck-passed   they are passed only there
---     point-number         the Morton number by all bits of a column and a row is that of the order
+--     chain-rising            the corners of a chain rise
+--     shownBy us z i          what the last of the i tiles at the front of us shows at z
+--     accountAt-shownBy       where i tiles start by z, that is the account of the list
+--     test-pointIn            the test of check 31
+--     Point                   what is known where lookup's checks are passed; lookupCheck-passed, they are passed only there
+--     point-number            the Morton number by all bits of a column and a row is that of the order
+--     lookupCheck-outside, -inside   check 31 by how it ends, behind an accepted list
+--     listCheck-order         the order of an accepted list
+--     shift-side              1 shifted by an order is the side of its bed
+--     started-le, account-none, -past, -last   what the slot of the last tile that starts by z says of the account at z
+--     lookupOf-refused, lookupOf-found         the answer by how the checks end
 use mathlib.Core.Path.{_≡_, refl, sym, _∙_}
 use mathlib.Core.List.{List, _∷_}
 use Prim.Native.Nat.{ℕ, zero, suc, _+_, _*_, _%_, _^_, _≤_, _<_}

@@ -28,10 +28,11 @@ use Rattle.listcheck.specs.ListCheck.{listCheck}
 use Rattle.roster.specs.Roster.{rosterOf}
 use Rattle.roster.proofs.CoveredLaws.{valid-length}
 use Rattle.roster.proofs.RosterLaws.{accountsOf, rosterOf-length}
+use Rattle.sections.specs.Sections.{wordBytes, wordsBytes, entriesBytes}
+use Rattle.sections.proofs.Puts.{sets-append, sets-front}
+use Rattle.sections.proofs.Passes.{length-entriesBytes}
 use Rattle.writer.specs.declared.Written.{Written}
-use Rattle.writer.specs.Writer.{wordBytes, wordsBytes, entriesBytes, fileOf, writeCheck, writeOf}
-use Rattle.writer.proofs.Puts.{sets-append, sets-front}
-use Rattle.writer.proofs.Passes.{length-entriesBytes}
+use Rattle.writer.specs.Writer.{fileOf, writeCheck, writeOf}
 
 pub length-wordsBytes : (ws : List ℕ) → length (wordsBytes ws) ≡ 4 * length ws
 unfolding wordsBytes

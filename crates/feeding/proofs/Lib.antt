@@ -1,0 +1,4 @@
+-- Laws of feeding.
+pub mod NextPlace
+pub mod Steps
+pub mod Turns

@@ -1,0 +1,125 @@
+-- The turns of a feed: the plain bed's feed from the start is its feed of the accounts that are left, on the bed that the list shows by now.
+--     Feeding c slots bytes k p s i b   so it is, with k accounts taken, p pixels scanned and the list in s with a gap from i to b
+--     feeding-start, -on                before the first account, and behind an account that is accepted
+--     feeding-stop, -end                an account is refused, or none is left
+use mathlib.Core.Path.{_≡_, _∙_, refl, ap, sym}
+use mathlib.Core.Bool.{Bool, true, false}
+use mathlib.Core.List.{List, [], _∷_, append-nil}
+use Prim.Native.Nat.{ℕ, suc, _+_, _^_, _≤_, _<_}
+use native.Mathlib.Numerals.{add-one}
+use native.Mathlib.Decide.{decLt}
+use native.Mathlib.Omega.{arith}
+use lib.Dec.{ltb, eqb}
+use lib.ListN.{length, take, drop, getD}
+use lib.Seq.{drop-cons, drop-length}
+use Rattle.basics.specs.Choice.{if}
+use Rattle.basics.proofs.Tests.{test-eqb}
+use Rattle.basics.proofs.ChoiceLaws.{if-yes}
+use Rattle.refusal.specs.Refusal.{accepted, scanFull, accountTooLarge, slotsExceeded}
+use Rattle.tile.specs.Tile.{Tile, highestAccount}
+use Rattle.tile.specs.Slots.{tilesIn}
+use Rattle.quadtree.specs.Raster.{accountAt}
+use Rattle.quadtree.specs.Quadtree.{quadtree}
+use Rattle.quadtree.proofs.ValidLaws.{valid-quadtree}
+use Rattle.bed.specs.declared.Scan.{Scan}
+use Rattle.bed.specs.Bed as bed
+use Rattle.merging.specs.Merging.{tiles}
+use Rattle.gap.specs.Gap.{held, Fits}
+use Rattle.gap.proofs.Parts.{held-front}
+use Rattle.feeding.specs.Feeding.{bedOf, pixelCheck, Holds, SteppedOn, Stepped, Opened, FedTo}
+use Rattle.feeding.specs.declared.Step.{Step}
+use Rattle.feeding.proofs.NextPlace.{holds-next}
+use Rattle.feeding.proofs.Steps.{check-full}
+
+-- three checks in turn, as a refusal and as what is stopped by it
+abbrev refusalOf : Bool → Bool → Bool → ℕ
+refusalOf p q r = if p scanFull (if q accountTooLarge (if r slotsExceeded accepted))
+
+turn-stop : {A : Type 0} (p q r : Bool) (g : ℕ → A) (x : A) → (refusalOf p q r ≡ accepted → ⊥) → if p (g scanFull) (if q (g accountTooLarge) (if r (g slotsExceeded) x)) ≡ g (refusalOf p q r)
+unfolding if
+turn-stop true q r g x h = refl
+turn-stop false true r g x h = refl
+turn-stop false false true g x h = refl
+turn-stop false false false g x h = absurd (h refl)
+
+turn-on : {A : Type 0} (p q r : Bool) (g : ℕ → A) (x : A) → refusalOf p q r ≡ accepted → if p (g scanFull) (if q (g accountTooLarge) (if r (g slotsExceeded) x)) ≡ x
+unfolding if
+turn-on true q r g x h = absurd (omega arith)
+turn-on false true r g x h = absurd (omega arith)
+turn-on false false true g x h = absurd (omega arith)
+turn-on false false false g x h = refl
+
+module _ (m k : ℕ) (b : bed.Bed) (a : ℕ) (bytes : List ℕ) where
+  abbrev full : Bool
+  full = eqb (b .scanned) (4 ^ b .order)
+
+  abbrev over : Bool
+  over = ltb m (length (quadtree (b .order) (bed.putPixel b a .account)))
+
+  abbrev next : bed.Fed
+  next = bed.feedPixels m (k + 1) (bed.putPixel b a) bytes
+
+  pixel-stop : (pixelCheck m b a ≡ accepted → ⊥) → bed.feedPixels m k b (a ∷ bytes) ≡ bed.stopped (pixelCheck m b a) k b
+  unfolding bed.feedPixels pixelCheck
+  pixel-stop h = turn-stop full (ltb highestAccount a) over (λ r. bed.stopped r k b) next h
+
+  pixel-on : pixelCheck m b a ≡ accepted → bed.feedPixels m k b (a ∷ bytes) ≡ next
+  unfolding bed.feedPixels pixelCheck
+  pixel-on h = turn-on full (ltb highestAccount a) over (λ r. bed.stopped r k b) next h
+
+pub record Feeding (c : Scan) (slots bytes : List ℕ) (k p : ℕ) (s : List ℕ) (i b : ℕ) : Type 0 where
+  pub raster : ℕ → ℕ
+  pub fits : Fits s i b
+  pub long : length s ≡ length slots
+  pub holds : Holds (c .kind) (c .order) p raster (tiles (held s i b))
+  pub same : bed.feedPixels (length slots) 0 (bed.shownBed c slots) bytes ≡ bed.feedPixels (length slots) k (bedOf (c .kind) (c .order) p raster) (drop k bytes)
+
+pub feeding-start : (c : Scan) (slots bytes : List ℕ) → Opened c slots → Feeding c slots bytes 0 (c .pixels) slots (c .tiles) (length slots)
+unfolding tilesIn
+feeding-start c slots bytes o = record {
+  raster = accountAt (tilesIn (c .tiles) slots);
+  fits = (o .count, omega arith);
+  long = refl;
+  holds = record { is = ap tiles (held-front slots (c .tiles)) ∙ valid-quadtree (o .valid); within = o .scanned; blank = o .blank };
+  same = refl;
+}
+
+module _ {c : Scan} {slots bytes : List ℕ} {k p : ℕ} {s : List ℕ} {i b : ℕ} (w : Feeding c slots bytes k p s i b) where
+  abbrev now : bed.Bed
+  now = bedOf (c .kind) (c .order) p (w .raster)
+
+  pub feeding-end : k ≡ length bytes → FedTo c (bed.feedPixels (length slots) 0 (bed.shownBed c slots) bytes) s (record { number = accepted; taken = k; pixels = p; front = i; back = b })
+  unfolding bed.feedPixels
+  feeding-end e =
+      let d : drop k bytes ≡ [] = rw e (drop-length bytes) in
+      rw (w .same, d) (record { number = refl; taken = refl; pixels = refl; kind = refl; order = refl; fits = w .fits; list = w .holds .is })
+
+  module _ (h : k < length bytes) (a : ℕ) (ea : a ≡ getD bytes k 0) (t : List ℕ) (r : Step) (step : Stepped (c .kind) (c .order) p a s t i b r) where
+    split : drop k bytes ≡ a ∷ drop (k + 1) bytes
+    split = rw (ea, add-one k) (drop-cons bytes k 0 h)
+
+    on : SteppedOn (length slots) now a (r .number) (tiles (held s i b)) (tiles (held t (r .front) (r .back)))
+    on = rw (w .long) at (step .on (w .raster) (w .holds))
+
+    pub feeding-stop : (r .number ≡ accepted → ⊥) →
+        FedTo c (bed.feedPixels (length slots) 0 (bed.shownBed c slots) bytes) t (record { number = r .number; taken = k; pixels = p; front = r .front; back = r .back })
+    feeding-stop q =
+        let e = pixel-stop (length slots) k now a (drop (k + 1) bytes) (λ z. q (on .number ∙ z)) in
+        rw (w .same, split, e) (record { number = on .number; taken = refl; pixels = refl; kind = refl; order = refl; fits = step .fits; list = on .kept q ∙ w .holds .is })
+
+    -- an account that is accepted has a place
+    pub feeding-going : r .number ≡ accepted → p < 4 ^ c .order
+    feeding-going q = elim (decLt p (4 ^ c .order)) [
+      | yes l ↦ l
+      | no l ↦ absurd (omega (arith, on .number, check-full (length slots) now a (omega (arith, w .holds .within))))
+    ]
+
+    pub feeding-on : length t ≡ length s → r .number ≡ accepted → Feeding c slots bytes (k + 1) (p + 1) t (r .front) (r .back)
+    unfolding bed.putPixel
+    feeding-on l q = record {
+      raster = bed.putPixel now a .account;
+      fits = step .fits;
+      long = l ∙ w .long;
+      holds = holds-next (w .holds) (feeding-going q) a (on .done q);
+      same = w .same ∙ rw split (pixel-on (length slots) k now a (drop (k + 1) bytes) (sym (on .number) ∙ q));
+    }

@@ -1,0 +1,120 @@
+// Pixels fed to a list with a gap, one account after the other.
+ghost use mathlib.Core.Path.{_≡_};
+ghost use Prim.Native.Nat.{_^_, _<_, _≤_};
+ghost use lib.ListN.{length};
+ghost use Rattle.tile.specs.Tile.{highestOrder};
+ghost use Rattle.bed.specs.Places.{pixelAt};
+ghost use Rattle.bed.specs.Bed.{shownBed, feedPixels};
+ghost use Rattle.gap.specs.Gap.{Fits};
+ghost use Rattle.feeding.specs.Feeding.{Stepped, Opened, FedTo};
+
+// What one account leaves: its refusal, or that it is accepted, and where the list has its gap.
+pub struct Step {
+    pub number: u32,
+    pub front: usize,
+    pub back: usize,
+}
+
+// What a feed leaves: its refusal, the count taken, the pixels scanned, and where the list has its gap.
+pub struct Run {
+    pub number: u32,
+    pub taken: usize,
+    pub pixels: u32,
+    pub front: usize,
+    pub back: usize,
+}
+
+// The Morton number of the pixel with `pixels` places before its own.
+fn next_place(kind: bed::Kind, order: u32, pixels: u32) -> u32
+    requires { ⌜ (order ≤ highestOrder) × (pixels < 4 ^ order) ⌝ }
+    ensures { λ r. ⌜ r ≡ pixelAt kind order pixels ⌝ }
+{
+    match kind {
+        bed::Kind::Rows => {
+            let row = pixels >> order;
+            morton::number(pixels - (row << order), row)
+        }
+        bed::Kind::Morton => pixels,
+    }
+}
+
+// Puts an account on the next place: 23, 24, 25.
+fn feed_pixel(
+    slots: &mut [u32],
+    front: usize,
+    back: usize,
+    kind: bed::Kind,
+    order: u32,
+    pixels: u32,
+    account: u8,
+) -> Step
+    requires { ⌜ Fits (now slots) front back ⌝ }
+    requires { ⌜ (order ≤ highestOrder) × (pixels ≤ 4 ^ order) ⌝ }
+    ensures { λ r. ⌜ Stepped kind order pixels account (now (slots .entry)) (now (slots .exit)) front back r ⌝ }
+{
+    if pixels == tile::area(order) {
+        return Step {
+            number: refusal::SCAN_FULL,
+            front,
+            back,
+        };
+    }
+    if bed::Scan::HIGHEST_ACCOUNT < account {
+        return Step {
+            number: refusal::ACCOUNT_TOO_LARGE,
+            front,
+            back,
+        };
+    }
+    let z = next_place(kind, order, pixels);
+    let put = gap::put(slots, front, back, z, account);
+    if put.full {
+        return Step {
+            number: refusal::SLOTS_EXCEEDED,
+            front: put.front,
+            back: put.back,
+        };
+    }
+    Step {
+        number: refusal::ACCEPTED,
+        front: put.front,
+        back: put.back,
+    }
+}
+
+// Feeds the accounts in turn to a list that passed the opening checks, up to the first that is refused.
+pub fn feed_all(scan: bed::Scan, slots: &mut [u32], accounts: &[u8]) -> Run
+    requires { ⌜ Opened scan (now slots) ⌝ }
+    ensures { λ r. ⌜ FedTo scan (feedPixels (length (now (slots .entry))) 0 (shownBed scan (now (slots .entry))) (now (accounts .entry))) (now (slots .exit)) r ⌝ }
+{
+    let kind = scan.kind;
+    let order = scan.order;
+    let mut front = scan.tiles;
+    let mut back = slots.len();
+    let mut pixels = scan.pixels;
+    let mut taken = 0;
+    while taken < accounts.len() {
+        let step = feed_pixel(slots, front, back, kind, order, pixels, accounts[taken]);
+        front = step.front;
+        back = step.back;
+        let number = step.number;
+        if number != refusal::ACCEPTED {
+            return Run {
+                number,
+                taken,
+                pixels,
+                front,
+                back,
+            };
+        }
+        pixels += 1;
+        taken += 1;
+    }
+    Run {
+        number: refusal::ACCEPTED,
+        taken,
+        pixels,
+        front,
+        back,
+    }
+}

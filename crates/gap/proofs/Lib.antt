@@ -1,0 +1,4 @@
+-- Laws of tile lists with a gap.
+pub mod Parts
+pub mod Pixel
+pub mod Stores

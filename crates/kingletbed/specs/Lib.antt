@@ -1,0 +1,2 @@
+-- What is offered to C and Rust.
+pub mod Exports

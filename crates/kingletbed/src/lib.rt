@@ -1,0 +1,184 @@
+// The library for C and Rust: each export hands its arguments to the offered call and its answer back. Nothing is asked of the caller.
+// include/kingletbed.h declares them and says what they do.
+ghost use mathlib.Core.Path.{_≡_};
+ghost use Prim.Native.Nat.{ℕ};
+ghost use Rattle.refusal.specs.Checks.{After};
+ghost use Rattle.bed.specs.Places.{scanOf};
+ghost use Rattle.listcheck.specs.ListCheck.{listCheck};
+ghost use Rattle.scan.specs.FreshScan.{freshOf};
+ghost use Rattle.scan.specs.Feed.{feedOf};
+ghost use Rattle.decode.specs.Decode.{decodeOf};
+ghost use Rattle.reading.specs.Lookup.{lookupOf};
+ghost use Rattle.reading.specs.Part.{partOf};
+ghost use Rattle.rights.specs.Rights.{rightsOf};
+ghost use Rattle.claim.specs.declared.Claimed.{Claimed};
+ghost use Rattle.claim.specs.Claim.{claimOf};
+ghost use Rattle.writer.specs.declared.Written.{Written};
+ghost use Rattle.writer.specs.Writer.{writeOf};
+ghost use Rattle.reader.specs.declared.Reading.{Reading};
+ghost use Rattle.reader.specs.Reader.{readOf};
+ghost use Rattle.kingletbed.specs.Exports.{kindOf, kindNumber, freshNumbers, fedNumbers};
+use bed::Kind;
+use bed::Scan;
+use claim::Claimed;
+use reader::Reading;
+use reading::Found;
+use reading::Part;
+use rights::Right;
+use writer::Written;
+
+// A fresh scan's answer, with the record's four numbers.
+#[repr(C)]
+pub struct FreshAnswer {
+    pub number: u32,
+    pub kind: u32,
+    pub order: u32,
+    pub pixels: u32,
+    pub tiles: usize,
+}
+
+// A feed's answer, with the new record's four numbers.
+#[repr(C)]
+pub struct FeedAnswer {
+    pub number: u32,
+    pub taken: usize,
+    pub kind: u32,
+    pub order: u32,
+    pub pixels: u32,
+    pub tiles: usize,
+}
+
+fn kind_of(kind: u32) -> Kind
+    ensures { λ r. ⌜ r ≡ kindOf kind ⌝ }
+{
+    if kind == 0 {
+        return Kind::Rows;
+    }
+    Kind::Morton
+}
+
+fn kind_number(kind: Kind) -> u32
+    ensures { λ r. ⌜ r ≡ kindNumber kind ⌝ }
+{
+    match kind {
+        Kind::Rows => 0,
+        Kind::Morton => 1,
+    }
+}
+
+#[no_mangle]
+pub extern "C" fn kb_check(order: u32, tiles: usize, slots: &[u32]) -> u32
+    ensures { λ r. ⌜ r ≡ listCheck order tiles (now (slots .entry)) ⌝ }
+{
+    listcheck::check(order, tiles, slots)
+}
+
+#[no_mangle]
+pub extern "C" fn kb_fresh(kind: u32, order: u32, slots: &mut [u32]) -> FreshAnswer
+    ensures { λ r. ⌜ _≡_ {A = After FreshAnswer} (record { answer = r; storage = now (slots .exit) }) (freshNumbers (freshOf (kindOf kind) order (now (slots .entry)))) ⌝ }
+{
+    let fresh = scan::fresh_scan(kind_of(kind), order, slots);
+    let scan = fresh.scan;
+    let kind = scan.kind;
+    FreshAnswer {
+        number: fresh.number,
+        kind: kind_number(kind),
+        order: scan.order,
+        pixels: scan.pixels,
+        tiles: scan.tiles,
+    }
+}
+
+#[no_mangle]
+pub extern "C" fn kb_feed(
+    kind: u32,
+    order: u32,
+    pixels: u32,
+    tiles: usize,
+    slots: &mut [u32],
+    accounts: &[u8],
+) -> FeedAnswer
+    ensures { λ r. ⌜ _≡_ {A = After FeedAnswer} (record { answer = r; storage = now (slots .exit) }) (fedNumbers (feedOf (scanOf (kindOf kind) order pixels tiles) (now (slots .entry)) (now (accounts .entry)))) ⌝ }
+{
+    let kind = kind_of(kind);
+    let scan = Scan {
+        kind,
+        order,
+        pixels,
+        tiles,
+    };
+    let fed = scan::feed(scan, slots, accounts);
+    let next = fed.scan;
+    let next_kind = next.kind;
+    FeedAnswer {
+        number: fed.number,
+        taken: fed.taken,
+        kind: kind_number(next_kind),
+        order: next.order,
+        pixels: next.pixels,
+        tiles: next.tiles,
+    }
+}
+
+#[no_mangle]
+pub extern "C" fn kb_decode(order: u32, tiles: usize, slots: &[u32], raster: &mut [u8]) -> u32
+    ensures { λ r. ⌜ _≡_ {A = After ℕ} (record { answer = r; storage = now (raster .exit) }) (decodeOf order tiles (now (slots .entry)) (now (raster .entry))) ⌝ }
+{
+    decode::decode(order, tiles, slots, raster)
+}
+
+#[no_mangle]
+pub extern "C" fn kb_lookup(order: u32, tiles: usize, slots: &[u32], column: u32, row: u32) -> Found
+    ensures { λ r. ⌜ r ≡ lookupOf order tiles (now (slots .entry)) column row ⌝ }
+{
+    reading::lookup(order, tiles, slots, column, row)
+}
+
+#[no_mangle]
+pub extern "C" fn kb_part(order: u32, tiles: usize, slots: &[u32], corner: u32, size: u32) -> Part
+    ensures { λ r. ⌜ r ≡ partOf order tiles (now (slots .entry)) corner size ⌝ }
+{
+    reading::quadrant_part(order, tiles, slots, corner, size)
+}
+
+#[no_mangle]
+pub extern "C" fn kb_rights(
+    order: u32,
+    tiles: usize,
+    slots: &[u32],
+    column: u32,
+    row: u32,
+    account: u8,
+) -> Right
+    ensures { λ r. ⌜ r ≡ rightsOf order tiles (now (slots .entry)) column row account ⌝ }
+{
+    rights::rights(order, tiles, slots, column, row, account)
+}
+
+#[no_mangle]
+pub extern "C" fn kb_claim(
+    order: u32,
+    tiles: usize,
+    slots: &mut [u32],
+    corner: u32,
+    size: u32,
+    account: u8,
+) -> Claimed
+    ensures { λ r. ⌜ _≡_ {A = After Claimed} (record { answer = r; storage = now (slots .exit) }) (claimOf order tiles (now (slots .entry)) corner size account) ⌝ }
+{
+    claim::claim(order, tiles, slots, corner, size, account)
+}
+
+#[no_mangle]
+pub extern "C" fn kb_write(order: u32, tiles: usize, slots: &[u32], file: &mut [u8]) -> Written
+    ensures { λ r. ⌜ _≡_ {A = After Written} (record { answer = r; storage = now (file .exit) }) (writeOf order tiles (now (slots .entry)) (now (file .entry))) ⌝ }
+{
+    writer::write(order, tiles, slots, file)
+}
+
+#[no_mangle]
+pub extern "C" fn kb_read(file: &[u8], slots: &mut [u32]) -> Reading
+    ensures { λ r. ⌜ _≡_ {A = After Reading} (record { answer = r; storage = now (slots .exit) }) (readOf (now (file .entry)) (now (slots .entry))) ⌝ }
+{
+    reader::read(file, slots)
+}

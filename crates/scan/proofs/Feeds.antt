@@ -1,0 +1,53 @@
+-- A feed whole: its answer and its slots.
+--     feed-refused   an opening check refuses
+--     feed-done      the accounts were fed, and the gap is closed
+use mathlib.Core.Path.{_≡_, _∙_, refl, ap, sym}
+use mathlib.Core.List.{List, _++_, map}
+use Prim.Native.Nat.{ℕ, _+_, _-_, _≤_}
+use native.Mathlib.Omega.{arith}
+use lib.ListN.{length, replicate}
+use Rattle.refusal.specs.Refusal.{accepted}
+use Rattle.refusal.specs.Checks.{After}
+use Rattle.refusal.proofs.CheckLaws.{unless-on, unless-off}
+use Rattle.tile.specs.Tile.{Tile, wordOf}
+use Rattle.tile.specs.Slots.{filled}
+use Rattle.tile.proofs.SlotsLaws.{words-tiles}
+use Rattle.quadtree.specs.Quadtree.{quadtree}
+use Rattle.bed.specs.declared.Scan.{Scan}
+use Rattle.bed.specs.Bed as bed
+use Rattle.merging.specs.Merging.{tiles}
+use Rattle.gap.specs.Gap.{held}
+use Rattle.gap.proofs.Parts.{held-length}
+use Rattle.feeding.specs.Feeding.{FedTo}
+use Rattle.feeding.specs.declared.Run.{Run}
+use Rattle.scan.specs.Feed.{opening, fedTo, feedOf}
+use Rattle.scan.specs.declared.Fed.{Fed}
+
+module _ (c : Scan) (slots bytes : List ℕ) where
+  abbrev plain : bed.Fed
+  plain = bed.feedPixels (length slots) 0 (bed.shownBed c slots) bytes
+
+  pub feed-refused : (r : ℕ) → r ≡ opening c slots → (r ≡ accepted → ⊥) → _≡_ {A = After Fed} (record { answer = record { number = r; taken = 0; scan = c }; storage = slots }) (feedOf c slots bytes)
+  unfolding feedOf
+  feed-refused r e h = rw e (sym (unless-off (opening c slots) _ _ (λ q. h (e ∙ q))))
+
+  module _ (t v : List ℕ) (r : Run) (fed : FedTo c plain t r) (st : length t ≡ length slots) (sv : length v ≡ length slots)
+      (closed : v ≡ held t (r .front) (r .back) ++ replicate (r .back - r .front) 0) where
+    abbrev ts : List Tile
+    ts = quadtree (plain .bed .order) (plain .bed .account)
+
+    count : r .front + (length v - r .back) ≡ length ts
+    count = omega (arith, st, sv, held-length t (r .front) (r .back) (fed .fits .0) (fed .fits .1), ap length (fed .list))
+
+    left : v ≡ filled (length slots) ts
+    unfolding filled
+    left =
+        let d : r .back - r .front ≡ length slots - length ts = omega (arith, count, fed .fits .0, fed .fits .1) in
+        closed ∙ rw (← words-tiles (held t (r .front) (r .back)), d, fed .list)
+
+    pub feed-done : opening c slots ≡ accepted →
+        _≡_ {A = After Fed} (record { answer = record { number = r .number; taken = r .taken; scan = record { kind = c .kind; order = c .order; pixels = r .pixels; tiles = r .front + (length v - r .back) } }; storage = v }) (feedOf c slots bytes)
+    unfolding feedOf fedTo
+    feed-done e =
+        (λ i. record { answer = record { number = fed .number i; taken = fed .taken i; scan = record { kind = fed .kind i; order = fed .order i; pixels = fed .pixels i; tiles = count i } }; storage = left i })
+        ∙ sym (unless-on (opening c slots) _ (fedTo (length slots) plain) e)

@@ -1,0 +1,4 @@
+-- Laws of the opening checks of a feed, and of a feed whole.
+pub mod Unscanned
+pub mod Opening
+pub mod Feeds

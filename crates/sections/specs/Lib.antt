@@ -1,0 +1,3 @@
+-- The sections of a map file as bytes.
+pub mod Sections
+pub mod OneEntry
