@@ -1,7 +1,9 @@
 -- What the exports make of the calls' answers, where these hold a scan record: an answer of numbers alone. Definitions only.
 --     kindOf x, kindNumber k   0 is by rows, any other number in Morton order, which is 1
 --     freshNumbers, fedNumbers an answer with the record's four numbers in place of the record
-use Prim.Native.Nat.{ℕ, zero, suc}
+use Prim.Native.Nat.{ℕ}
+use lib.Dec.{eqb}
+use Rattle.basics.specs.Choice.{if}
 use Rattle.refusal.specs.Checks.{After}
 use Rattle.bed.specs.declared.Kind.{Kind}
 use Rattle.bed.specs.declared.Kind.the-variants.{Rows, Morton}
@@ -11,8 +13,7 @@ use Rattle.kingletbed.specs.declared.FreshAnswer.{FreshAnswer}
 use Rattle.kingletbed.specs.declared.FeedAnswer.{FeedAnswer}
 
 unfoldable pub kindOf : ℕ → Kind
-kindOf zero = Rows
-kindOf (suc x) = Morton
+kindOf x = if (eqb x 0) Rows Morton
 
 unfoldable pub kindNumber : Kind → ℕ
 kindNumber Rows = 0

@@ -1,0 +1,2 @@
+-- Laws of the exports.
+pub mod ExportLaws
