@@ -3,7 +3,7 @@
 --     place-low                  it lies in the largest bed
 --     holds-awaits               where what is not scanned is nobody's, the list awaits the pixel at the next place
 --     holds-next                 and with this pixel scanned, what is not scanned is still nobody's
-use mathlib.Core.Path.{_≡_, _∙_, refl, ap, ap₂, sym}
+use mathlib.Core.Path.{_≡_, _∙_, ap}
 use mathlib.Core.List.{List}
 use Prim.Native.Nat.{ℕ, _+_, _-_, _*_, _/_, _%_, _^_, _≤_, _<_}
 use native.Mathlib.Nat.{div-add-mod', mod-lt, div-lt-iff-lt-mul}
@@ -13,7 +13,7 @@ use lib.Pow.{pow-pos}
 use Rattle.morton.specs.Morton.{morton, sideBits}
 use Rattle.morton.proofs.MortonLaws.{morton-wide}
 use Rattle.tile.specs.Tile.{Tile, highestOrder}
-use Rattle.quadtree.specs.Raster.{Aligned, paint}
+use Rattle.quadtree.specs.Raster.{Aligned}
 use Rattle.quadtree.specs.Quadtree.{quadtree}
 use Rattle.quadtree.proofs.Alignment.{area-mono}
 use Rattle.quadtree.proofs.Shown.{paint-out}

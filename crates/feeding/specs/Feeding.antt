@@ -1,10 +1,11 @@
--- One pixel of a feed and all of them, on a list with a gap: what the contracts of this crate cite. Definitions only.
---     bedOf k n s f            the plain bed of kind k and order n with s pixels scanned and the raster f
---     pixelCheck m b a         23, 24 and 25 of the account a on the next place of the bed b, with m slots
---     Holds k n s f ts         ts is the list of this bed, and what is not scanned is nobody's
+-- One account of a feed and all of them, on a list with a gap: what the contracts of this crate cite. Definitions only.
+--     bedOf k n s f               the plain bed of kind k and order n with s pixels scanned and the raster f
+--     pixelCheck m b a            23, 24 and 25 of the account a on the next place of the bed b, with m slots
+--     Holds k n s f ts            ts is the list of this bed, and what is not scanned is nobody's
+--     SteppedOn m b a r ts us     r is what the checks say of a on the bed b; if they accept it, us is the list of the bed with it, else ts again
 --     Stepped k n p a s t i b r   from the slots s to t the account a went to the place with p before it, or was refused
---     Opened c slots           what a scan record and its slots have that pass the opening checks
---     FedTo c e t r            the answer r and the list with a gap in the slots t are what the plain bed's feed e gives
+--     Opened c slots              what a scan record and its slots have that pass the opening checks
+--     FedTo c e t r               the answer r and the list with a gap in the slots t are what the plain bed's feed e gives
 use mathlib.Core.Path.{_≡_}
 use mathlib.Core.List.{List}
 use Prim.Native.Nat.{ℕ, _^_, _≤_, _<_}
@@ -40,7 +41,6 @@ pub record Holds (k : Kind) (n s : ℕ) (f : ℕ → ℕ) (ts : List Tile) : Typ
   pub within : s ≤ 4 ^ n
   pub blank : (z : ℕ) → z < 4 ^ n → s ≤ placeOf k n z → f z ≡ 0
 
--- the account a on the next place of the bed b, from the list ts to us
 pub record SteppedOn (m : ℕ) (b : bed.Bed) (a r : ℕ) (ts us : List Tile) : Type 0 where
   pub number : r ≡ pixelCheck m b a
   pub done : r ≡ accepted → us ≡ quadtree (b .order) (bed.putPixel b a .account)

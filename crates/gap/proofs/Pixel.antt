@@ -2,7 +2,7 @@
 --     placed-nobody   nobody's pixel changes nothing
 --     placed-pushed   a pixel that is pushed on the tiles that start ahead of it
 use mathlib.Core.Path.{_≡_, _∙_, refl, ap, sym}
-use mathlib.Core.Bool.{Bool, true, false}
+use mathlib.Core.Bool.{false}
 use mathlib.Core.Logic.{inl, inr}
 use mathlib.Core.List.{List, [], _∷_, _++_, append-assoc, map-append, List·Memᴰ·head, List·Memᴰ·append-cases, List·Memᴰ·eq-of-singleton, List·Memᴰ·not-nil}
 use Prim.Native.Nat.{ℕ, zero, suc, _+_, _-_, _*_, _^_, _≤_, _<_}
@@ -13,16 +13,15 @@ use lib.Dec.{ltb}
 use lib.ListN.{length, take, drop, getD, length-append, length-map, length-drop, take-append-drop, drop-of-length-le}
 use lib.Seq.{take-suc, drop-cons, length-take-le, take-take}
 use borrow.Author.Tests.{lt-ltb, le-ltb}
-use Rattle.basics.proofs.Tests.{Test, holds, fails, test-leb}
 use Rattle.tile.specs.Tile.{Tile, tile, stop, tileOf}
-use Rattle.quadtree.specs.Raster.{Aligned, paint, _∈_}
+use Rattle.quadtree.specs.Raster.{_∈_}
 use Rattle.quadtree.specs.Quadtree.{quadtree}
 use Rattle.quadtree.proofs.Alignment.{cmp, below, same, above, area-pos, aligned-unit, aligned-next}
-use Rattle.quadtree.proofs.Tiling.{On, Tiling, tiling-le, tiling-cong, tiling-cut, tiling-split, placed}
+use Rattle.quadtree.proofs.Tiling.{Tiling, tiling-le, tiling-cong, tiling-cut, tiling-split, placed}
 use Rattle.quadtree.proofs.Shown.{paint-in, paint-out}
 use Rattle.quadtree.proofs.Siblings.{NoFour, no-four-left, no-four-right}
 use Rattle.quadtree.proofs.ValidLaws.{quadtree-tiling, quadtree-no-four, quadtree-cong}
-use Rattle.quadtree.proofs.Merge.{tileRun, tileRun-front, Between, Apart, between-quadtree}
+use Rattle.quadtree.proofs.Merge.{tileRun-front, Between, Apart, between-quadtree}
 use Rattle.merging.specs.Merging.{tiles, upTo, Merged}
 use Rattle.merging.specs.declared.Top.{Top}
 use Rattle.gap.specs.Gap.{held, Fits, Awaits, dotted, PlacedOn, Placed, Pushed, Low, High, Moved}

@@ -3,7 +3,9 @@
 --     Fits s i b             the two parts lie apart in s
 --     Awaits n f z ts        ts is the linear quadtree of the raster f of order n, and the pixel z can be put into it: of each block that has z,
 --                            the last pixel is nobody's
---     Placed s t i b z a r   from s to t the pixel z got the account a, or was refused for want of a slot
+--     dotted f z a           the raster f with the account a on the pixel z
+--     PlacedOn n m g ts us r r says whether m slots are too few for the linear quadtree of g; if they are not, us is this list, else ts again
+--     Placed s t i b z a r   from the slots s to t the pixel z got the account a, or was refused for want of a slot
 -- and in between:
 --     Pushed s t i b z a r   what the pixel leaves of the first i words, where the other part starts at b
 --     Low s i z, High s b z  the last tile of the first part starts ahead of z; the first tile of the other part does not
@@ -34,11 +36,9 @@ pub record Awaits (n : ℕ) (f : ℕ → ℕ) (z : ℕ) (ts : List Tile) : Type 
   pub inside : z < 4 ^ n
   pub last : (k c : ℕ) → Aligned k c → c ≤ z → z < c + 4 ^ k → c + 4 ^ k ≤ 4 ^ n → f (c + 4 ^ k - 1) ≡ 0
 
--- the raster with the account a on the pixel z
 abbrev pub dotted : (ℕ → ℕ) → ℕ → ℕ → ℕ → ℕ
 dotted f z a = paint f z (z + 1) a
 
--- the list with the pixel, in the m slots
 pub record PlacedOn (n m : ℕ) (g : ℕ → ℕ) (ts us : List Tile) (r : Bool) : Type 0 where
   pub full : r ≡ ltb m (length (quadtree n g))
   pub done : r ≡ false → us ≡ quadtree n g

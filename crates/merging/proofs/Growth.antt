@@ -4,23 +4,18 @@
 --     grown-more          the three siblings ahead of the tile go with it into the tile of the next size
 --     sibling-room        what their size is asked for
 --     merged-short, merged-other, merged-top   no more: too few words, others, or no larger block ends with z
-use mathlib.Core.Path.{_≡_, _∙_, refl, ap, sym}
-use mathlib.Core.Bool.{true, false}
-use mathlib.Core.List.{List, [], _∷_, _++_, map-append}
+use mathlib.Core.Path.{_≡_, refl, ap}
+use mathlib.Core.List.{List, _++_}
 use Prim.Native.Nat.{ℕ, zero, suc, _+_, _-_, _*_, _^_, _≤_, _<_}
 use native.Mathlib.Numerals.{add-one}
 use native.Mathlib.Omega.{arith}
-use lib.ListN.{length, take, set, length-append, length-map}
-use lib.Seq.{length-take-le, take-suc-set, drop-set-lt}
-use borrow.Author.Tests.{lt-ltb, le-ltb}
-use Rattle.tile.specs.Tile.{Tile, tile, tileOf, wordOf, highestAccount}
-use Rattle.tile.proofs.TileLaws.{tile-word}
+use lib.ListN.{length, take, length-append, length-map}
+use lib.Seq.{length-take-le}
+use Rattle.tile.specs.Tile.{Tile, tile, tileOf}
 use Rattle.quadtree.specs.Raster.{Aligned}
 use Rattle.quadtree.proofs.Alignment.{area-pos, aligned-zero, aligned-gap, aligned-down}
 use Rattle.quadtree.proofs.Merge.{tileRun, tileRun-length, Between, between-merge}
 use Rattle.merging.specs.Merging.{tiles, upTo, Levels, EndsWith, Merged}
-use Rattle.merging.specs.declared.Top.{Top}
-use Rattle.merging.proofs.SiblingWords.{true-false}
 
 pub record Grown (s : List ℕ) (i z a j q : ℕ) : Type 0 where
   pub back : j ≤ i

@@ -1,16 +1,16 @@
 -- The three siblings ahead of a tile, as the last three of the first words of a list.
 --     three-not    one of the words is another: they are not the siblings
 --     three-last   two are as they must be: the third decides
-use mathlib.Core.Path.{_≡_, _∙_, refl, ap, sym}
+use mathlib.Core.Path.{_≡_, _∙_, ap, sym}
 use mathlib.Core.Bool.{Bool, true, false}
 use mathlib.Core.List.{List, [], _∷_, _++_, append-assoc, map-append, reverse, reverse-append}
-use Prim.Native.Nat.{ℕ, zero, suc, _+_, _-_, _*_, _^_, _≤_, _<_}
+use Prim.Native.Nat.{ℕ, suc, _+_, _-_, _*_, _^_, _≤_}
 use native.Mathlib.Omega.{arith}
 use lib.Dec.{eqb}
 use lib.ListN.{length, take, getD}
 use lib.Seq.{take-suc}
 use Rattle.basics.proofs.Tests.{Test, holds, fails, test-eqb}
-use Rattle.tile.specs.Tile.{Tile, tile, tileOf, wordOf, highestOrder, highestAccount}
+use Rattle.tile.specs.Tile.{Tile, tile, tileOf, wordOf}
 use Rattle.tile.proofs.TileLaws.{tile-word, word-tile}
 use Rattle.quadtree.proofs.Merge.{tileRun}
 use Rattle.merging.specs.Merging.{tiles, EndsWith, Room, Three}

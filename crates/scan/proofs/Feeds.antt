@@ -1,15 +1,15 @@
 -- A feed whole: its answer and its slots.
 --     feed-refused   an opening check refuses
 --     feed-done      the accounts were fed, and the gap is closed
-use mathlib.Core.Path.{_≡_, _∙_, refl, ap, sym}
-use mathlib.Core.List.{List, _++_, map}
-use Prim.Native.Nat.{ℕ, _+_, _-_, _≤_}
+use mathlib.Core.Path.{_≡_, _∙_, ap, sym}
+use mathlib.Core.List.{List, _++_}
+use Prim.Native.Nat.{ℕ, _+_, _-_}
 use native.Mathlib.Omega.{arith}
 use lib.ListN.{length, replicate}
 use Rattle.refusal.specs.Refusal.{accepted}
 use Rattle.refusal.specs.Checks.{After}
 use Rattle.refusal.proofs.CheckLaws.{unless-on, unless-off}
-use Rattle.tile.specs.Tile.{Tile, wordOf}
+use Rattle.tile.specs.Tile.{Tile}
 use Rattle.tile.specs.Slots.{filled}
 use Rattle.tile.proofs.SlotsLaws.{words-tiles}
 use Rattle.quadtree.specs.Quadtree.{quadtree}

@@ -6,7 +6,6 @@ use mathlib.Core.Bool.{Bool, true, false, not}
 use Prim.Native.Nat.{ℕ, _^_, _≤_, _<_}
 use mathlib.Core.List.{List}
 use native.Mathlib.Omega.{arith}
-use lib.Dec.{leb}
 use Rattle.basics.proofs.Tests.{Test, holds, fails, test-leb}
 use Rattle.refusal.specs.Refusal.{accepted, scannedTooLarge, tileUnscanned}
 use Rattle.refusal.specs.Checks.{must}

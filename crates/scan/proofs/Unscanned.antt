@@ -7,22 +7,20 @@
 --     covers-found, covers-on    one word of the list decides, or the words behind it do
 --     covers-none                no word is left
 --     covers-blank               where no tile covers a pixel that is not scanned, these are nobody's
-use mathlib.Core.Path.{_≡_, _∙_, refl, ap, sym}
-use mathlib.Core.Bool.{Bool, true, false, not, _||_}
+use mathlib.Core.Path.{_≡_, _∙_, refl, ap}
+use mathlib.Core.Bool.{Bool, true, false, _||_}
 use mathlib.Core.List.{List, [], _∷_}
-use Prim.Native.Nat.{ℕ, zero, suc, _+_, _-_, _*_, _/_, _%_, _^_, _≤_, _<_}
-use native.Mathlib.Nat.{mul-le-mul-right}
+use Prim.Native.Nat.{ℕ, zero, suc, _+_, _-_, _*_, _%_, _^_, _≤_, _<_}
 use native.Mathlib.Numerals.{add-one}
 use native.Mathlib.Decide.{decLt}
 use native.Mathlib.Omega.{arith}
 use lib.Dec.{leb}
 use lib.ListN.{length, take, drop, getD, length-map, List·getD-map, drop-of-length-le}
 use lib.Seq.{drop-cons, getD-take, length-take-le}
-use Rattle.basics.specs.Choice.{some}
 use Rattle.basics.proofs.Tests.{Test, holds, fails, test-leb, test-not}
 use Rattle.basics.proofs.ChoiceLaws.{Some, test-some}
 use Rattle.morton.specs.Morton.{column, row, sideBits}
-use Rattle.morton.proofs.MortonLaws.{column-lt, row-lt, column-wide, row-wide}
+use Rattle.morton.proofs.MortonLaws.{column-wide, row-wide}
 use Rattle.tile.specs.Tile.{Tile, stop, tileOf, highestOrder}
 use Rattle.tile.specs.Slots.{tilesIn}
 use Rattle.quadtree.specs.Raster.{accountAt, Quadrant}
