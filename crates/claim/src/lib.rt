@@ -37,7 +37,8 @@ fn block_check(order: u32, corner: u32, size: u32, account: u8) -> u32
     requires { ⌜ order ≤ highestOrder ⌝ }
     ensures { λ r. ⌜ r ≡ must (blockIn order corner size) blockInvalid (must (leb account highestAccount) accountTooLarge accepted) ⌝ }
 {
-    if !is_block(order, corner, size) {
+    let block = is_block(order, corner, size);
+    if !block {
         return refusal::BLOCK_INVALID;
     }
     if bed::Scan::HIGHEST_ACCOUNT < account {

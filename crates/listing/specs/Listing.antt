@@ -1,17 +1,17 @@
 -- The listing that bedlist prints (document 01, "Worked beds"), as bytes. Definitions only.
---     digits n             n in decimal, for n below 10 ^ 10
 --     bedLine, tileLine, stopLine   the lines, each with its line feed
 --     listedOrder          the highest order that is listed
 --     listedSlots          the slots that are lent
 --     listing input        the listing of an input: an order, then account bytes by rows
 --     listOf input out     the offered call: what is written to the bytes lent, of which those past the listing are not touched
 use mathlib.Core.List.{List, [], _∷_, _++_}
-use Prim.Native.Nat.{ℕ, zero, suc, _+_, _/_, _%_}
-use lib.Dec.{leb, ltb}
+use Prim.Native.Nat.{ℕ}
+use lib.Dec.{leb}
 use lib.ListN.{length, drop, replicate}
 use Rattle.basics.specs.Choice.{if}
 use Rattle.refusal.specs.Refusal.{accepted, orderTooLarge, bytesTooFew, fileCutShort}
 use Rattle.refusal.specs.Checks.{must, unless, After}
+use Rattle.decimal.specs.Decimal.{digits}
 use Rattle.tile.specs.Tile.{Tile}
 use Rattle.tile.specs.Slots.{tilesIn}
 use Rattle.bed.specs.declared.Kind.the-variants.{Rows}
@@ -19,14 +19,6 @@ use Rattle.scan.specs.declared.Fed.{Fed}
 use Rattle.scan.specs.FreshScan.{freshOf}
 use Rattle.scan.specs.Feed.{feedOf}
 use Rattle.listing.specs.declared.Listed.{Listed}
-
--- at most k digits, the last first in the recursion: n / 10 and then the last digit, with no needless zero ahead
-unfoldable pub digitsBy : ℕ → ℕ → List ℕ
-digitsBy zero n = []
-digitsBy (suc k) n = if (ltb n 10) ((48 + n) ∷ []) (digitsBy k (n / 10) ++ ((48 + n % 10) ∷ []))
-
-abbrev pub digits : ℕ → List ℕ
-digits n = digitsBy 10 n
 
 abbrev pub space : ℕ
 space = 32

@@ -21,9 +21,6 @@ use Rattle.plan.proofs.Cases.{claimable-room, kept-changes, split-chang
 
 -- what a search says of the tiles
 module _ (s : List ℕ) where
-  ts : List Tile
-  ts = map tileOf s
-
   tile-at : ℕ → Tile
   tile-at j = getD (map tileOf s) j (tileOf 0)
 

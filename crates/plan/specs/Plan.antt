@@ -1,6 +1,6 @@
 -- What a claim changes in a valid list, found without a store: the facts that the functions hand on. Definitions only.
 --     Claimable n ts c k a          the checks that come before a claim have passed: ts is valid, the block a quadrant, the account an account
---     FirstPast s from x r          r is the first index from `from` on whose tile stops past x, or the length
+--     FirstPast s from x r          r splits the tiles from `from` on at x: the tile just ahead of r stops by x, that at r past it
 --     Covered s lo c k              the tile at lo is larger than the block and does not start behind its corner
 --     Changes n ts c k a r          the change r makes of ts the linear quadtree after the claim
 --     inner a                       how many tiles a block of the account a has: one, and none for nobody's

@@ -3,7 +3,6 @@ use Rattle.morton.specs.Morton.{sideBits}
 use Rattle.morton.proofs.MortonLaws.{morton-lt}
 use Rattle.reading.proofs.LookupLaws.{lookupCheck-passed, lookupOf-refused, lookupOf-found}
 use mathlib.Core.Path.{_∙_, sym}
-use native.Mathlib.Omega.{arith}
 use borrow.Author.Needs.{needs}
 use Rattle.reading.proofs.lookup.Statement.{statement}
 use Rattle.reading.proofs.lookup.Tie as tie
@@ -17,7 +16,7 @@ account-at-requires : tie.Need-account-at-requires
 account-at-requires c κs =
     let s = c .before .before .before .before in
     let p = lookupCheck-passed (s .args .order) (s .args .tiles) (s .args .slots .now) (s .args .column) (s .args .row) (sym (c .before .before .lookup-check .ensures) ∙ c .before .if1 .left) in
-    (omega (arith, c .number .ensures, morton-lt sideBits (s .args .column) (s .args .row)), p .count, (s .args .order, p .valid))
+    (rw (c .number .ensures) (morton-lt sideBits _ _), p .count, (s .args .order, p .valid))
 
 returns-2 : tie.Need-returns-2
 returns-2 c =

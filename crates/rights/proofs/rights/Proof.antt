@@ -2,7 +2,6 @@
 use Rattle.morton.specs.Morton.{sideBits}
 use Rattle.morton.proofs.MortonLaws.{morton-lt}
 use Rattle.rights.proofs.RightsLaws.{rightsCheck-first, rights-point, rightsOf-refused, rightsOf-answer}
-use native.Mathlib.Omega.{arith}
 use borrow.Author.Needs.{needs}
 use Rattle.rights.proofs.rights.Statement.{statement}
 use Rattle.rights.proofs.rights.Tie as tie
@@ -16,7 +15,7 @@ account-at-requires : tie.Need-account-at-requires
 account-at-requires c κs =
     let s = c .before .before .before .before .before .before in
     let p = rights-point (s .args .order) (s .args .tiles) (s .args .slots .now) (s .args .column) (s .args .row) (s .args .asking) (c .before .before .first .result) (rightsCheck-first (s .args .order) (s .args .tiles) (s .args .slots .now) (s .args .column) (s .args .row) (s .args .asking) _ _ _ (c .before .before .before .before .lookup-check .ensures) (c .before .before .before .asker-check .ensures) (c .before .before .first .ensures)) (c .before .if1 .left) in
-    (omega (arith, c .number .ensures, morton-lt sideBits (s .args .column) (s .args .row)), p .count, (s .args .order, p .valid))
+    (rw (c .number .ensures) (morton-lt sideBits _ _), p .count, (s .args .order, p .valid))
 
 returns-2 : tie.Need-returns-2
 returns-2 c =

@@ -1,0 +1,3 @@
+-- Numbers in decimal, and lines of numbers.
+pub mod Decimal
+pub mod Lines

@@ -1,0 +1,74 @@
+// Numbers in decimal, and lines of numbers, put into a lent buffer. As in crate `text`, what does not fit is counted.
+ghost use mathlib.Core.Path.{_≡_};
+ghost use mathlib.Core.List.{_++_};
+ghost use Prim.Native.Nat.{_+_, _<_};
+ghost use lib.ListN.{length};
+ghost use Rattle.text.specs.Written.{Written, countLimit};
+ghost use Rattle.decimal.specs.Decimal.{digitsBy, digits};
+ghost use Rattle.decimal.specs.Lines.{digitsMost, tripleMost, pairLine, tripleLine};
+
+const LINE_FEED: u8 = b'\n';
+
+// Numbers have at most so many digits.
+const MOST_DIGITS: usize = 10;
+
+// The byte of a digit.
+fn digit(d: usize) -> u8
+    requires { ⌜ d < 10 ⌝ }
+    ensures { λ r. ⌜ r ≡ 48 + d ⌝ }
+{
+    b'0' + d as u8
+}
+
+// Puts the last digits of n, at most `places` of them.
+fn put_digits(out: &mut [u8], at: usize, places: usize, n: usize) -> usize
+    requires { ⌜ at + places < countLimit ⌝ }
+    ensures { λ r. ⌜ Written (digitsBy places n) at (now (out .entry)) r (now (out .exit)) ⌝ }
+{
+    if places == 0 {
+        return at;
+    }
+    if n < 10 {
+        return text::put(out, at, digit(n));
+    }
+    let last = put_digits(out, at, places - 1, n / 10);
+    text::put(out, last, digit(n % 10))
+}
+
+// Puts a number in decimal.
+pub fn put_number(out: &mut [u8], at: usize, n: usize) -> usize
+    requires { ⌜ at + digitsMost < countLimit ⌝ }
+    ensures { λ r. ⌜ Written (digits n) at (now (out .entry)) r (now (out .exit)) ⌝ }
+{
+    put_digits(out, at, MOST_DIGITS, n)
+}
+
+// Puts a byte string and a number behind it.
+fn put_field(out: &mut [u8], at: usize, ahead: &[u8], n: usize) -> usize
+    requires { ⌜ at + length (now ahead) + digitsMost < countLimit ⌝ }
+    ensures { λ r. ⌜ Written (now (ahead .entry) ++ digits n) at (now (out .entry)) r (now (out .exit)) ⌝ }
+{
+    let p = text::put_all(out, at, ahead);
+    put_number(out, p, n)
+}
+
+// Puts a line of two numbers, each behind a byte string.
+pub fn put_pair(out: &mut [u8], at: usize, first: &[u8], m: usize, second: &[u8], n: usize) -> usize
+    requires { ⌜ at + length (now first) + length (now second) + tripleMost < countLimit ⌝ }
+    ensures { λ r. ⌜ Written (pairLine (now (first .entry)) m (now (second .entry)) n) at (now (out .entry)) r (now (out .exit)) ⌝ }
+{
+    let p = put_field(out, at, first, m);
+    let q = put_field(out, p, second, n);
+    text::put(out, q, LINE_FEED)
+}
+
+// Puts a line of three numbers, with a space between them.
+pub fn put_triple(out: &mut [u8], at: usize, a: usize, b: usize, c: usize) -> usize
+    requires { ⌜ at + tripleMost < countLimit ⌝ }
+    ensures { λ r. ⌜ Written (tripleLine a b c) at (now (out .entry)) r (now (out .exit)) ⌝ }
+{
+    let p = put_number(out, at, a);
+    let q = put_field(out, p, b" ", b);
+    let s = put_field(out, q, b" ", c);
+    text::put(out, s, LINE_FEED)
+}

@@ -1,0 +1,4 @@
+-- Laws of the listing.
+pub mod LineLaws
+pub mod LentLaws
+pub mod ScannedLaws

@@ -1,0 +1,48 @@
+-- Laws of bytes put into a lent buffer.
+--     written-none      no bytes leave the buffer as it is
+--     written-count     a byte past the end is counted
+--     written-one       a byte that fits is put
+--     written-then      bytes put behind bytes
+--     written-next      one more byte of a string
+--     written-all       from the first place on: the bytes, then what was behind
+use mathlib.Core.Path.{_≡_, refl, ap, sym, _∙_}
+use mathlib.Core.List.{List, [], _∷_, _++_, append-assoc}
+use Prim.Native.Nat.{ℕ, _+_, _-_, _≤_, _<_}
+use native.Mathlib.Omega.{arith}
+use native.Mathlib.Numerals.{add-one}
+use lib.ListN.{length, take, drop, getD, set, length-append, length-set, take-append-drop}
+use lib.Seq.{length-take-le, take-at, drop-at, drop-drop, take-suc, set-split}
+use Rattle.text.specs.Written.{Written}
+
+pub written-none : (at : ℕ) (old : List ℕ) → Written [] at old at old
+written-none at old = record { stop = omega arith; size = refl; put = λ h. sym (take-append-drop at old) }
+
+pub written-count : (at b : ℕ) (old : List ℕ) → length old ≤ at → Written (b ∷ []) at old (at + 1) old
+written-count at b old h = record { stop = refl; size = refl; put = λ g. absurd (omega arith) }
+
+pub written-one : (at b : ℕ) (old : List ℕ) → at < length old → Written (b ∷ []) at old (at + 1) (set old at b)
+written-one at b old h = record { stop = refl; size = length-set old at b; put = λ g. rw (add-one at) (set-split old at b h) }
+
+module _ {xs ys : List ℕ} {at : ℕ} {old : List ℕ} {mid : ℕ} {half : List ℕ} {end : ℕ} {new : List ℕ} where
+  pub written-then : Written xs at old mid half → Written ys mid half end new → Written (xs ++ ys) at old end new
+  written-then v w = record { stop = stops; size = w .size ∙ v .size; put = puts }
+    where
+      stops : end ≡ at + length (xs ++ ys)
+      stops = omega (arith, length-append xs ys, v .stop, w .stop)
+
+      puts : end ≤ length old → new ≡ take at old ++ ((xs ++ ys) ++ drop end old)
+      puts h =
+          let e : half ≡ (take at old ++ xs) ++ drop mid old = v .put (omega (arith, w .stop)) ∙ sym (append-assoc (take at old) xs (drop mid old)) in
+          let l : length (take at old ++ xs) ≡ mid = omega (arith, length-append (take at old) xs, length-take-le at old (omega (arith, v .stop, w .stop)), v .stop) in
+          let a : take mid half ≡ take at old ++ xs = rw e (take-at (take at old ++ xs) (drop mid old) mid l) in
+          let m : mid + (end - mid) ≡ end = omega (arith, w .stop) in
+          let b : drop end half ≡ drop end old =
+          sym (rw m at (drop-drop (end - mid) mid half)) ∙ rw e (ap (drop (end - mid)) (drop-at (take at old ++ xs) (drop mid old) mid l)) ∙ rw m at (drop-drop (end - mid) mid old) in
+          w .put (omega (arith, v .size)) ∙ rw (a, b) (append-assoc (take at old) xs (ys ++ drop end old)) ∙ ap (λ (l : List ℕ). take at old ++ l) (sym (append-assoc xs ys (drop end old)))
+
+pub written-next : (bytes : List ℕ) (i : ℕ) {at : ℕ} {old : List ℕ} {mid : ℕ} {half : List ℕ} {end : ℕ} {new : List ℕ} → i < length bytes →
+    Written (take i bytes) at old mid half → Written (getD bytes i 0 ∷ []) mid half end new → Written (take (i + 1) bytes) at old end new
+written-next bytes i h v w = rw (add-one i, take-suc bytes i 0 h) (written-then v w)
+
+pub written-all : {bytes old : List ℕ} {end : ℕ} {new : List ℕ} → Written bytes 0 old end new → end ≤ length old → new ≡ bytes ++ drop end old
+written-all w h = w .put h
