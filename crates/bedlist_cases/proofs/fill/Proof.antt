@@ -1,0 +1,16 @@
+-- `bedlist_cases::fill` stays within its slice. Assumes nothing.
+use mathlib.Core.Path.{_≡_}
+use Prim.Native.Nat.{_-_}
+use lib.ListN.{length}
+use borrow.Author.Needs.{needs}
+use Rattle.bedlist_cases.proofs.fill.Statement.{statement}
+use Rattle.bedlist_cases.proofs.fill.Tie as tie
+
+abbrev Inv-loop : tie.InvT-loop
+Inv-loop input₀ i₀ input i = length input ≡ length input₀
+
+abbrev μ-loop : tie.MeasureT-loop
+μ-loop input₀ i₀ input i = length input₀ - i
+
+pub fill-spec : {M : Type 1} → statement M
+fill-spec = tie.close (tie.spec Inv-loop μ-loop (λ c. search needs) (λ c κs. search needs) (λ c. search needs) (λ c. search needs) (λ c. search needs) (λ c. search needs) (λ c. search needs) (λ c. search needs))
