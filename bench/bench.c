@@ -1,0 +1,221 @@
+/* Times every call of the library beside straightforward C in the same run, and prints Markdown tables.
+
+       bench/run [LOWEST ORDER [HIGHEST ORDER]]        6 and 10 unless given
+
+   Before anything is timed, every other way to build a list must give the library's list. */
+#include "builds.h"
+#include "straight.h"
+
+#include <stdio.h>
+#include <stdlib.h>
+#include <string.h>
+#include <time.h>
+
+#define BATCH 5e6 /* nanoseconds that a batch takes at least */
+#define TURNS 5
+
+static double now(void)
+{
+    struct timespec t;
+    clock_gettime(CLOCK_PROCESS_CPUTIME_ID, &t);
+    return (double)t.tv_sec * 1e9 + (double)t.tv_nsec;
+}
+
+/* Sets `result` to the nanoseconds of processor time of the statements: the mean of a batch. */
+#define TIME(result, ...)                                          \
+    for (long runs = 1;; runs *= 2) {                              \
+        double begin = now();                                      \
+        for (long run = 0; run < runs; run++) {                    \
+            __VA_ARGS__;                                           \
+        }                                                          \
+        double spent = now() - begin;                              \
+        (result) = spent / (double)runs;                           \
+        if (spent >= BATCH)                                        \
+            break;                                                 \
+    }
+
+/* Sets `ours` and `other` to the least time of two statements, in turns; a single turn where it takes long. */
+#define BOTH(ours, our_call, other, other_call)                    \
+    do {                                                           \
+        for (int turn = 0; turn < TURNS; turn++) {                 \
+            double first, second;                                  \
+            TIME(first, our_call)                                  \
+            TIME(second, other_call)                               \
+            (ours) = turn && (ours) < first ? (ours) : first;      \
+            (other) = turn && (other) < second ? (other) : second; \
+            if (first > 50 * BATCH)                                \
+                break;                                             \
+        }                                                          \
+    } while (0)
+
+/* A bed, its accounts in both orders of scanning, its list, and room to work in. */
+struct bench {
+    uint32_t order;
+    size_t pixels, tiles, room;
+    uint8_t *rows, *morton, *raster, *file;
+    uint32_t *list, *slots, *other;
+    struct linked *linked;
+};
+
+typedef kb_fresh_answer fresh_call(uint32_t, uint32_t, uint32_t *, size_t);
+typedef kb_feed_answer feed_call(uint32_t, uint32_t, uint32_t, size_t, uint32_t *, size_t, const uint8_t *, size_t);
+
+/* A whole scan in pieces of a length with m slots; returns the tile count. */
+static size_t scan(struct bench *b, fresh_call *fresh, feed_call *feed, uint32_t kind, size_t m, size_t piece)
+{
+    const uint8_t *accounts = kind == KB_ROWS ? b->rows : b->morton;
+    kb_fresh_answer record = fresh(kind, b->order, b->slots, m);
+    uint32_t pixels = record.pixels;
+    size_t tiles = record.tiles;
+    for (size_t done = 0; done < b->pixels; done += piece) {
+        kb_feed_answer fed = feed(kind, b->order, pixels, tiles, b->slots, m, accounts + done, piece);
+        if (fed.number) {
+            fprintf(stderr, "bench: a feed was refused with %u\n", fed.number);
+            exit(1);
+        }
+        pixels = fed.pixels;
+        tiles = fed.tiles;
+    }
+    return tiles;
+}
+
+static void same(struct bench *b, const uint32_t *list, size_t tiles, const char *what)
+{
+    if (tiles != b->tiles || memcmp(list, b->list, tiles * sizeof *list)) {
+        fprintf(stderr, "bench: %s gives another list\n", what);
+        exit(1);
+    }
+}
+
+static void set_up(struct bench *b, int kind, uint32_t order)
+{
+    b->order = order;
+    b->pixels = area(order);
+    make_bed(kind, order, b->rows);
+    for (uint32_t z = 0; z < b->pixels; z++)
+        b->morton[z] = b->rows[straight_side(z >> 1) << order | straight_side(z)];
+    b->room = b->pixels;
+    b->tiles = scan(b, kb_fresh, kb_feed, KB_ROWS, b->room, b->pixels);
+    memcpy(b->list, b->slots, b->tiles * sizeof *b->list);
+    same(b, b->slots, scan(b, kb_fresh, kb_feed, KB_MORTON, b->room, b->pixels), "the scan in Morton order");
+    same(b, b->slots, scan(b, straight_fresh, straight_feed, KB_ROWS, b->room, b->pixels), "straightforward C by rows");
+    same(b, b->slots, scan(b, straight_fresh, straight_feed, KB_MORTON, b->room, b->pixels), "straightforward C in Morton order");
+    same(b, b->other, bottom_up(order, b->rows, b->other), "the bottom-up build");
+    same(b, b->other, morton_stack(b->morton, b->pixels, b->other), "the stack");
+    linked_fresh(b->linked);
+    for (size_t row = 0; row < (size_t)1 << order; row++)
+        linked_row(b->linked, b->rows + (row << order));
+    same(b, b->other, linked_list(b->linked, b->other), "document 001's list");
+    /* By rows a list is longer on the way; in Morton order by three tiles of each size at most. */
+    size_t most = linked_most(b->linked), morton = b->tiles + 3 * order + 1;
+    b->room = most > morton ? most : morton;
+}
+
+/* One row of the table of feeds. */
+static void feeds(struct bench *b, const char *name)
+{
+    size_t m = b->room, all = b->pixels, row = (size_t)1 << b->order;
+    double ours = 0, straight = 0, linked = 0, built = 0, stack = 0;
+    fprintf(stderr, "feeds, order %u, %s\n", b->order, name);
+    printf("| %u | %s | %zu | %zu ", b->order, name, b->tiles, m);
+    BOTH(linked, linked_fresh(b->linked); for (size_t y = 0; y < row; y++) linked_row(b->linked, b->rows + y * row), built,
+         bottom_up(b->order, b->rows, b->other));
+    BOTH(ours, scan(b, kb_fresh, kb_feed, KB_ROWS, m, all), straight, scan(b, straight_fresh, straight_feed, KB_ROWS, m, all));
+    printf("| %.2f | %.2f | %.2f | %.2f ", ours / (double)all, ours / straight, ours / linked, ours / built);
+    BOTH(ours, scan(b, kb_fresh, kb_feed, KB_ROWS, m, row), straight, scan(b, straight_fresh, straight_feed, KB_ROWS, m, row));
+    printf("| %.2f | %.2f | %.2f ", ours / (double)all, ours / straight, ours / linked);
+    BOTH(ours, scan(b, kb_fresh, kb_feed, KB_MORTON, m, all), stack, morton_stack(b->morton, all, b->other));
+    BOTH(ours, scan(b, kb_fresh, kb_feed, KB_MORTON, m, all), straight, scan(b, straight_fresh, straight_feed, KB_MORTON, m, all));
+    printf("| %.2f | %.2f | %.2f ", ours / (double)all, ours / straight, ours / stack);
+    BOTH(ours, scan(b, kb_fresh, kb_feed, KB_MORTON, m, row), straight, scan(b, straight_fresh, straight_feed, KB_MORTON, m, row));
+    printf("| %.2f | %.2f | %.2f |\n", ours / (double)all, ours / straight, ours / stack);
+}
+
+/* A cell: nanoseconds for each tile, pixel or slot, and the ratio to straightforward C. */
+static void cell(double ours, double straight, size_t units)
+{
+    printf("| %.2f ×%.2f ", ours / (double)(units ? units : 1), ours / straight);
+}
+
+/* One row of the table of the other calls. Every call but the fresh scan and the reader checks the list first. */
+static void calls(struct bench *b, const char *name)
+{
+    uint32_t order = b->order, side = 1u << order, at = side / 3, corner = straight_morton(at & ~3u, at & ~3u);
+    size_t tiles = b->tiles, m = tiles + 40;
+    double ours = 0, straight = 0;
+    fprintf(stderr, "calls, order %u, %s\n", order, name);
+    uint32_t *slots = b->slots;
+    memset(slots, 0, m * sizeof *slots);
+    memcpy(slots, b->list, tiles * sizeof *slots);
+    printf("| %u | %s | %zu ", order, name, tiles);
+    BOTH(ours, kb_check(order, tiles, slots, m), straight, straight_check(order, tiles, slots, m));
+    cell(ours, straight, tiles);
+    BOTH(ours, kb_lookup(order, tiles, slots, m, at, at), straight, straight_lookup(order, tiles, slots, m, at, at));
+    cell(ours, straight, tiles);
+    BOTH(ours, kb_part(order, tiles, slots, m, corner, 2), straight, straight_part(order, tiles, slots, m, corner, 2));
+    cell(ours, straight, tiles);
+    BOTH(ours, kb_rights(order, tiles, slots, m, at, at, 9), straight, straight_rights(order, tiles, slots, m, at, at, 9));
+    cell(ours, straight, tiles);
+    /* A block of 16 pixels is claimed and released in turn. */
+    size_t left = tiles;
+    BOTH(ours, left = kb_claim(order, left, slots, m, corner, 2, 9).tiles; left = kb_claim(order, left, slots, m, corner, 2, 0).tiles,
+         straight, left = straight_claim(order, left, slots, m, corner, 2, 9).tiles;
+         left = straight_claim(order, left, slots, m, corner, 2, 0).tiles);
+    cell(ours / 2, straight / 2, tiles);
+    memcpy(slots, b->list, tiles * sizeof *slots);
+    size_t length = kb_write(order, tiles, slots, m, b->file, KB_FILE_MOST(b->pixels)).length;
+    BOTH(ours, kb_write(order, tiles, slots, m, b->file, length), straight, straight_write(order, tiles, slots, m, b->file, length));
+    cell(ours, straight, tiles);
+    BOTH(ours, kb_read(b->file, length, slots, tiles), straight, straight_read(b->file, length, slots, tiles));
+    cell(ours, straight, tiles);
+    BOTH(ours, kb_decode(order, tiles, slots, m, b->raster, b->pixels), straight,
+         straight_decode(order, tiles, slots, m, b->raster, b->pixels));
+    cell(ours, straight, b->pixels);
+    BOTH(ours, kb_fresh(KB_ROWS, order, slots, b->pixels), straight, straight_fresh(KB_ROWS, order, slots, b->pixels));
+    cell(ours, straight, b->pixels);
+    printf("|\n");
+}
+
+int main(int argc, char **argv)
+{
+    uint32_t lowest = argc > 1 ? (uint32_t)atoi(argv[1]) : 6;
+    uint32_t highest = argc > 2 ? (uint32_t)atoi(argv[2]) : KB_HIGHEST_ORDER;
+    if (lowest < 3 || highest > KB_HIGHEST_ORDER || lowest > highest) {
+        fprintf(stderr, "bench: orders from 3 to %d\n", KB_HIGHEST_ORDER);
+        return 2;
+    }
+    size_t most = area(highest);
+    struct bench b = {0};
+    b.rows = malloc(most), b.morton = malloc(most), b.raster = malloc(most), b.file = malloc(KB_FILE_MOST(most));
+    b.list = malloc((most + 40) * sizeof *b.list);
+    b.slots = malloc((most + 40) * sizeof *b.slots);
+    b.other = malloc(most * sizeof *b.other);
+    if (!b.rows || !b.morton || !b.raster || !b.file || !b.list || !b.slots || !b.other)
+        return 1;
+    printf("Feeds: nanoseconds for each pixel, then the library's time divided by that of each other way. Every feed of the library and "
+           "of the same in C\nchecks the whole list and clears the slots past it; the other ways keep their list between rows and check "
+           "nothing.\n\n");
+    printf("| order | bed | tiles | slots lent | rows, at once | same in C | 001 | bottom-up | rows, row by row | same in C | 001 "
+           "| Morton, at once | same in C | stack | Morton, row by row | same in C | stack |\n"
+           "|---|---|---|---|---|---|---|---|---|---|---|---|---|---|---|---|---|\n");
+    for (int pass = 0; pass < 2; pass++) {
+        if (pass == 1)
+            printf("\nOther calls: nanoseconds for each tile (decode: pixel; fresh: slot) × the library's time divided by that of "
+                   "straightforward C.\nEvery call but read and fresh checks the whole list first. For the roster, straightforward C keeps "
+                   "an array of totals; the library counts each account from the list.\n\n| order | bed | tiles | check | lookup | part | rights | claim | write | read | decode | fresh |\n"
+                   "|---|---|---|---|---|---|---|---|---|---|---|---|\n");
+        for (uint32_t order = lowest; order <= highest; order++) {
+            b.linked = linked_new(order);
+            for (int kind = 0; kind < BED_KINDS; kind++) {
+                set_up(&b, kind, order);
+                if (pass == 0)
+                    feeds(&b, bed_names[kind]);
+                else
+                    calls(&b, bed_names[kind]);
+                fflush(stdout);
+            }
+            linked_free(b.linked);
+        }
+    }
+    return 0;
+}

@@ -1,0 +1,219 @@
+/* The calls that read a map, and the claim. */
+#include "straight.h"
+
+#include <string.h>
+
+/* The column in the even bits of a Morton number; of the number shifted by one, the row. */
+uint32_t straight_side(uint32_t z)
+{
+    z &= 0x55555;
+    z = (z | z >> 1) & 0x33333;
+    z = (z | z >> 2) & 0x30f0f;
+    z = (z | z >> 4) & 0x300ff;
+    return (z | z >> 8) & 0x3ff;
+}
+
+static uint32_t spread(uint32_t x)
+{
+    x = (x | x << 8) & 0x300ff;
+    x = (x | x << 4) & 0x30f0f;
+    x = (x | x << 2) & 0x33333;
+    return (x | x << 1) & 0x55555;
+}
+
+uint32_t straight_morton(uint32_t column, uint32_t row) { return spread(column) | spread(row) << 1; }
+
+uint32_t straight_check(uint32_t order, size_t tiles, const uint32_t *slots, size_t slots_length)
+{
+    if (order > KB_HIGHEST_ORDER)
+        return KB_ORDER_TOO_LARGE;
+    if (tiles > slots_length)
+        return KB_COUNT_ABOVE_SLOTS;
+    uint32_t end = 0;
+    for (size_t i = 0; i < tiles; i++) {
+        uint32_t number = straight_word(order, slots, i, end);
+        if (number)
+            return number;
+        end = end_of(slots[i]);
+    }
+    return 0;
+}
+
+/* The first tile that ends past z. */
+static size_t find(size_t tiles, const uint32_t *slots, uint32_t z)
+{
+    size_t low = 0, high = tiles;
+    while (low < high) {
+        size_t middle = low + (high - low) / 2;
+        if (end_of(slots[middle]) <= z)
+            low = middle + 1;
+        else
+            high = middle;
+    }
+    return low;
+}
+
+uint32_t straight_decode(uint32_t order, size_t tiles, const uint32_t *slots, size_t slots_length,
+                         uint8_t *raster, size_t raster_length)
+{
+    uint32_t number = straight_check(order, tiles, slots, slots_length);
+    if (number)
+        return number;
+    if (raster_length != area(order))
+        return KB_RASTER_LENGTH;
+    memset(raster, 0, raster_length);
+    for (size_t i = 0; i < tiles; i++) {
+        uint32_t corner = kb_tile_corner(slots[i]), side = 1u << kb_tile_size(slots[i]);
+        uint8_t *at = raster + ((size_t)straight_side(corner >> 1) << order) + straight_side(corner);
+        for (uint32_t row = 0; row < side; row++, at += (size_t)1 << order)
+            memset(at, kb_tile_account(slots[i]), side);
+    }
+    return 0;
+}
+
+kb_lookup_answer straight_lookup(uint32_t order, size_t tiles, const uint32_t *slots, size_t slots_length,
+                                 uint32_t column, uint32_t row)
+{
+    kb_lookup_answer answer = {straight_check(order, tiles, slots, slots_length), 0};
+    if (answer.number)
+        return answer;
+    if (column >> order || row >> order) {
+        answer.number = KB_POINT_OUTSIDE;
+        return answer;
+    }
+    uint32_t z = straight_morton(column, row);
+    size_t at = find(tiles, slots, z);
+    if (at < tiles && kb_tile_corner(slots[at]) <= z)
+        answer.account = kb_tile_account(slots[at]);
+    return answer;
+}
+
+static int block_invalid(uint32_t order, uint32_t corner, uint32_t size)
+{
+    return size > order || corner >= area(order) || corner & (area(size) - 1);
+}
+
+kb_part_answer straight_part(uint32_t order, size_t tiles, const uint32_t *slots, size_t slots_length,
+                             uint32_t corner, uint32_t size)
+{
+    kb_part_answer answer = {straight_check(order, tiles, slots, slots_length), 0, 0};
+    if (answer.number)
+        return answer;
+    if (block_invalid(order, corner, size)) {
+        answer.number = KB_BLOCK_INVALID;
+        return answer;
+    }
+    size_t at = find(tiles, slots, corner);
+    if (at < tiles && kb_tile_corner(slots[at]) <= corner && kb_tile_size(slots[at]) > size) {
+        answer.position = at + (kb_tile_corner(slots[at]) < corner);
+        return answer;
+    }
+    answer.position = at;
+    answer.length = find(tiles, slots, corner + area(size)) - at;
+    return answer;
+}
+
+static int class_of(uint8_t account) { return account <= 7 ? 0 : account <= 47 ? 1 : 2; }
+
+kb_rights_answer straight_rights(uint32_t order, size_t tiles, const uint32_t *slots, size_t slots_length,
+                                 uint32_t column, uint32_t row, uint8_t account)
+{
+    static const uint8_t table[3][5] = {{1, 1, 1, 1, 0}, {1, 1, 0, 0, 0}, {1, 0, 0, 0, 0}};
+    kb_lookup_answer found = straight_lookup(order, tiles, slots, slots_length, column, row);
+    kb_rights_answer answer = {found.number, 0};
+    if (answer.number)
+        return answer;
+    if (account == 0 || account > KB_HIGHEST_ACCOUNT) {
+        answer.number = KB_ASKER_INVALID;
+        return answer;
+    }
+    int kind = found.account == account ? 0 : found.account == 0 ? 1 : 4 - class_of(found.account);
+    answer.yes = table[class_of(account)][kind];
+    return answer;
+}
+
+/* The pieces of a tile around and with a block inside it that gets another account; returns how many. */
+static size_t split(uint32_t tile, uint32_t corner, uint32_t size, uint8_t account, uint32_t *pieces)
+{
+    size_t count = 0;
+    uint32_t start = kb_tile_corner(tile);
+    for (uint32_t k = kb_tile_size(tile); k-- > size;) {
+        uint32_t quarter = corner >> 2 * k & 3;
+        for (uint32_t q = 0; q < quarter; q++)
+            pieces[count++] = word_of(start + q * area(k), k, kb_tile_account(tile));
+        start += quarter * area(k);
+    }
+    if (account)
+        pieces[count++] = word_of(corner, size, account);
+    for (uint32_t k = size; k < kb_tile_size(tile); k++) {
+        uint32_t quarter = corner >> 2 * k & 3;
+        uint32_t parent = corner & ~(area(k + 1) - 1);
+        for (uint32_t q = quarter + 1; q < 4; q++)
+            pieces[count++] = word_of(parent + q * area(k), k, kb_tile_account(tile));
+    }
+    return count;
+}
+
+/* Whether the three siblings of a block stand next to the run [low, high) whose place it takes. */
+static int siblings(size_t tiles, const uint32_t *slots, size_t low, size_t high, uint32_t block)
+{
+    uint32_t corner = kb_tile_corner(block), size = kb_tile_size(block), step = area(size) << 10;
+    uint32_t place = corner >> 2 * size & 3;
+    if (low < place || tiles - high < 3 - place)
+        return 0;
+    for (uint32_t q = 1; q <= place; q++)
+        if (slots[low - q] != block - q * step)
+            return 0;
+    for (uint32_t q = 1; q <= 3 - place; q++)
+        if (slots[high + q - 1] != block + q * step)
+            return 0;
+    return 1;
+}
+
+kb_claim_answer straight_claim(uint32_t order, size_t tiles, uint32_t *slots, size_t slots_length,
+                               uint32_t corner, uint32_t size, uint8_t account)
+{
+    uint32_t pieces[3 * KB_HIGHEST_ORDER + 1];
+    size_t count = 0;
+    kb_claim_answer answer = {straight_check(order, tiles, slots, slots_length), 0};
+    if (answer.number)
+        return answer;
+    if (block_invalid(order, corner, size)) {
+        answer.number = KB_BLOCK_INVALID;
+        return answer;
+    }
+    if (account > KB_HIGHEST_ACCOUNT) {
+        answer.number = KB_ACCOUNT_TOO_LARGE;
+        return answer;
+    }
+    size_t low = find(tiles, slots, corner), high;
+    if (low < tiles && kb_tile_corner(slots[low]) <= corner && kb_tile_size(slots[low]) > size) {
+        high = low + 1;
+        if (kb_tile_account(slots[low]) == account)
+            pieces[count++] = slots[low];
+        else
+            count = split(slots[low], corner, size, account, pieces);
+    } else {
+        high = find(tiles, slots, corner + area(size));
+        if (account) {
+            uint32_t block = word_of(corner, size, account);
+            while (kb_tile_size(block) < order && siblings(tiles, slots, low, high, block)) {
+                uint32_t k = kb_tile_size(block), place = kb_tile_corner(block) >> 2 * k & 3;
+                low -= place;
+                high += 3 - place;
+                block = word_of(kb_tile_corner(block) - place * area(k), k + 1, account);
+            }
+            pieces[count++] = block;
+        }
+    }
+    if (tiles - (high - low) + count > slots_length) {
+        answer.number = KB_SLOTS_EXCEEDED;
+        return answer;
+    }
+    answer.tiles = tiles - (high - low) + count;
+    memmove(slots + low + count, slots + high, (tiles - high) * sizeof *slots);
+    memcpy(slots + low, pieces, count * sizeof *slots);
+    if (slots_length > answer.tiles)
+        memset(slots + answer.tiles, 0, (slots_length - answer.tiles) * sizeof *slots);
+    return answer;
+}

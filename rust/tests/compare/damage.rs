@@ -1,0 +1,190 @@
+//! Lists and files with something wrong in them, and every call on them.
+
+use crate::pair::Count;
+use crate::plain::{area, file as plain_file, Record, Tile};
+use crate::random::{palette, Built, Random};
+use crate::sequences::{ask, block, AsMap};
+
+/// A list that may be bad.
+struct Bad {
+    order: u32,
+    tiles: usize,
+    slots: Vec<u32>,
+}
+
+impl AsMap for Bad {
+    fn map(&self) -> (u32, usize, &[u32]) {
+        (self.order, self.tiles, &self.slots)
+    }
+}
+
+/// Every call on a list that was damaged once or twice.
+pub fn list_case(random: &mut Random, count: &mut Count) {
+    let order = random.pick(&[0, 1, 2, 2, 3, 3, 4, 5]);
+    let splits = random.between(2, 7);
+    let accounts = palette(random);
+    let mut words = Built::random(random, order, &accounts, splits).words;
+    for _ in 0..random.below(3) {
+        list(random, &mut words, order);
+    }
+    let mut bad = Bad { order, tiles: words.len(), slots: words };
+    bad.slots.extend((0..random.below(4)).map(|_| 0x3fff_ffff));
+    match random.below(12) {
+        0 => bad.order = random.pick(&[0, 1, 3, 10, 11, 255, 256, 257, u32::MAX]),
+        1 => bad.tiles = bad.slots.len() + random.pick(&[0, 1, 2, usize::MAX / 2 - 100]),
+        2 => bad.tiles = random.below(bad.slots.len() + 1),
+        _ => {}
+    }
+    count.check(bad.map());
+    for _ in 0..4 {
+        ask(random, count, &bad);
+    }
+    let most = area(bad.order.min(6)) as usize;
+    let record = Record {
+        kind: random.below(2) as u32,
+        order: bad.order,
+        pixels: match random.below(4) {
+            0 => random.below(most + 1) as u32,
+            1 => most as u32 + random.below(3) as u32,
+            2 => u32::MAX - random.below(3) as u32,
+            _ => most as u32,
+        },
+        tiles: bad.tiles,
+    };
+    let fed: Vec<u8> = (0..random.below(6)).map(|_| random.below(66) as u8).collect();
+    count.feed(record, &mut bad.slots.clone(), &fed);
+    let (corner, size) = block(random, bad.order);
+    let account = random.below(66) as u8;
+    count.claim((bad.order, bad.tiles), &mut bad.slots, corner, size, account);
+}
+
+/// One kind of damage to a list.
+pub fn list(random: &mut Random, words: &mut Vec<u32>, order: u32) {
+    if words.is_empty() {
+        words.push(random.next() as u32 >> random.below(32));
+        return;
+    }
+    let at = random.below(words.len());
+    let other = random.below(words.len());
+    match random.below(11) {
+        0 => words[at] ^= 1 << random.below(32),
+        1 => words.swap(at, other),
+        2 => words.truncate(at),
+        3 => {
+            words.remove(at);
+        }
+        4 => words.insert(at, words[other]),
+        5 => words[at] = random.next() as u32 >> random.below(32),
+        6 => words[at] &= !63,
+        7 => words[at] = words[at] & !(15 << 6) | (random.between(order as usize, 15) as u32) << 6,
+        8 => words[at] = (words[at]).wrapping_add(1 << 10),
+        9 => words[at] = words[at] & 1023 | (area(order) as u32) << 10 & 0x3fff_ffff,
+        _ => unmerge(words, at),
+    }
+}
+
+/// The tile at a place becomes its four quarters.
+fn unmerge(words: &mut Vec<u32>, at: usize) {
+    let tile = Tile::of_word(words[at]);
+    if tile.size == 0 {
+        return;
+    }
+    let size = tile.size - 1;
+    let quarters = (0..4).map(|quarter| Tile { corner: tile.corner + quarter * area(size), size, ..tile }.word());
+    words.splice(at..=at, quarters.collect::<Vec<u32>>());
+}
+
+/// Readings of a file that was damaged, cut at each place and lengthened, with enough slots and with too few.
+pub fn file_case(random: &mut Random, count: &mut Count) {
+    let order = random.pick(&[0, 1, 1, 2, 2, 3, 4]);
+    let splits = random.between(2, 6);
+    let accounts = palette(random);
+    let mut words = Built::random(random, order, &accounts, splits).words;
+    if random.once_in(2) {
+        list(random, &mut words, order);
+    }
+    let mut bytes = rough(order, &words);
+    for _ in 0..random.below(3) {
+        file(random, &mut bytes, words.len());
+    }
+    let room = match random.below(4) {
+        0 => random.below(words.len() + 1),
+        1 => words.len(),
+        _ => words.len() + random.below(5),
+    };
+    let mut slots: Vec<u32> = (0..room).map(|_| random.next() as u32).collect();
+    let (number, order, tiles) = count.read(&bytes, &mut slots);
+    if number == 0 {
+        // What was read is a map, and writing it gives the file again, but for the roster's order.
+        let (number, again) = count.write((order, tiles, &slots), &vec![0; bytes.len()]);
+        assert_eq!((number, again.len()), (0, bytes.len()), "a file read and written again");
+        assert_eq!(again[..6 + 4 * tiles], bytes[..6 + 4 * tiles], "a file read and written again");
+        let mut kept = vec![0; room];
+        assert_eq!(count.read(&again, &mut kept), (0, order, tiles));
+        assert_eq!(kept, slots, "a list written and read again");
+    }
+    let cut = random.below(bytes.len() + 1);
+    count.read(&bytes[..cut], &mut slots);
+}
+
+/// The file of words that need not be a list: its roster has the tiles' areas where they can be summed.
+fn rough(order: u32, words: &[u32]) -> Vec<u8> {
+    let tiles: Vec<Tile> = words.iter().map(|&word| Tile::of_word(word)).collect();
+    let fits = |tile: &Tile| tile.size <= order && tile.corner % area(tile.size) == 0 && tile.end() <= area(order);
+    let good: Vec<Tile> = tiles.iter().copied().filter(fits).collect();
+    let file = plain_file::write(order, &good);
+    let mut bytes = vec![order as u8];
+    bytes.extend((words.len() as u32).to_be_bytes());
+    bytes.extend(words.iter().flat_map(|word| word.to_be_bytes()));
+    bytes.extend(&file[5 + 4 * good.len()..]);
+    bytes
+}
+
+/// One kind of damage to a file of so many tiles.
+pub fn file(random: &mut Random, bytes: &mut Vec<u8>, tiles: usize) {
+    if bytes.is_empty() {
+        bytes.push(random.next() as u8);
+        return;
+    }
+    let at = random.below(bytes.len());
+    let roster = (5 + 4 * tiles).min(bytes.len() - 1);
+    let entries = (bytes.len() - roster - 1) / 5;
+    let entry = |index: usize| roster + 1 + 5 * index..roster + 6 + 5 * index;
+    match random.below(12) {
+        0 => bytes[at] ^= 1 << random.below(8),
+        1 => bytes.truncate(at),
+        2 => bytes.extend((0..random.between(1, 6)).map(|_| 0)),
+        3 => bytes[0] = random.pick(&[0, 1, 2, 3, 10, 11, 128, 255]),
+        4 if bytes.len() > 4 => {
+            let number = random.pick(&[0, tiles as u32 + 1, 0x4000_0000, 0x4000_0000 + tiles as u32, 0x8000_0000, u32::MAX]);
+            bytes[1..5].copy_from_slice(&number.to_be_bytes());
+        }
+        5 if entries > 1 => {
+            // Another order of the roster, which is no damage.
+            let (one, other) = (random.below(entries), random.below(entries));
+            for byte in 0..5 {
+                bytes.swap(entry(one).start + byte, entry(other).start + byte);
+            }
+        }
+        6 if entries > 0 => {
+            let copied = bytes[entry(random.below(entries))].to_vec();
+            bytes.extend(copied);
+            bytes[roster] = bytes[roster].wrapping_add(1);
+        }
+        7 if entries > 0 => {
+            bytes.drain(entry(random.below(entries)));
+            bytes[roster] = bytes[roster].wrapping_sub(1);
+        }
+        8 if entries > 0 => bytes[entry(random.below(entries)).start] = random.pick(&[0, 1, 5, 63, 64, 128, 255]),
+        9 if entries > 0 => {
+            let last = entry(random.below(entries)).end - 1;
+            bytes[last] = bytes[last].wrapping_add(random.pick(&[1, 255]));
+        }
+        10 => {
+            // An entry for an account without pixels.
+            bytes.extend([random.between(1, 63) as u8, 0, 0, 0, 0]);
+            bytes[roster] = bytes[roster].wrapping_add(1);
+        }
+        _ => bytes[roster] = random.next() as u8,
+    }
+}

@@ -1,0 +1,163 @@
+//! Large beds: lists known by construction, by a rule of the bed, and by the plain implementation.
+
+use crate::damage;
+use crate::pair::Count;
+use crate::plain::bed::Bed;
+use crate::plain::tally::Tally;
+use crate::plain::{area, left, Record};
+use crate::random::{palette, Built, Random};
+use crate::sequences::block;
+use kingletbed::ffi;
+
+const ORDER: u32 = 10;
+const SIDE: usize = 1 << ORDER;
+const PIXELS: usize = SIDE * SIDE;
+
+/// Rectangles of accounts on nobody's ground.
+fn boards(random: &mut Random) -> Vec<u8> {
+    let mut raster = vec![0; PIXELS];
+    for _ in 0..60 {
+        let (column, row) = (random.below(SIDE), random.below(SIDE));
+        let (width, height) = (random.between(1, 300).min(SIDE - column), random.between(1, 300).min(SIDE - row));
+        let account = random.below(64) as u8;
+        for y in row..row + height {
+            raster[y * SIDE + column..y * SIDE + column + width].fill(account);
+        }
+    }
+    raster
+}
+
+/// One account for each pixel, from all of them.
+fn noise(random: &mut Random) -> Vec<u8> {
+    (0..PIXELS).map(|_| random.below(64) as u8).collect()
+}
+
+fn in_scan_order(kind: u32, raster: &[u8]) -> Vec<u8> {
+    let bed = Bed::fresh(kind, ORDER).expect("order 10");
+    (0..area(ORDER)).map(|place| raster[bed.index_of_place(place)]).collect()
+}
+
+/// Feeds in pieces of a length, with m slots: the number that stopped it, the pixels taken, the tile count after each piece, the slots.
+fn fed(kind: u32, m: usize, accounts: &[u8], piece: usize) -> (u32, usize, Vec<usize>, Vec<u32>) {
+    let mut slots = vec![u32::MAX; m];
+    let fresh = ffi::fresh(kind, ORDER, &mut slots);
+    assert_eq!((fresh.number, fresh.kind, fresh.order, fresh.pixels, fresh.tiles), (0, kind, ORDER, 0, 0));
+    let (mut pixels, mut tiles, mut counts, mut total) = (0, 0, Vec::new(), 0);
+    for accounts in accounts.chunks(piece) {
+        let f = ffi::feed(kind, ORDER, pixels, tiles, &mut slots, accounts);
+        (pixels, tiles, total) = (f.pixels, f.tiles, total + f.taken);
+        counts.push(tiles);
+        assert_eq!((f.kind, f.order, pixels as usize), (kind, ORDER, total));
+        if f.number != 0 {
+            return (f.number, total, counts, slots);
+        }
+        assert_eq!(f.taken, accounts.len(), "a feed that is not refused takes all");
+    }
+    (0, total, counts, slots)
+}
+
+/// The number of blocks after each pixel of a scan.
+fn course(kind: u32, accounts: &[u8]) -> Vec<usize> {
+    let bed = Bed::fresh(kind, ORDER).expect("order 10");
+    let mut tally = Tally::of(&bed);
+    accounts.iter().enumerate().map(|(place, &account)| tally.set(bed.index_of_place(place as u64), account)).collect()
+}
+
+/// Scans a bed whose list is known, with enough slots at once and in pieces, then with just enough and with one too few.
+fn scans(raster: &[u8], words: &[u32], kind: u32, piece: usize) {
+    let accounts = in_scan_order(kind, raster);
+    let counts = course(kind, &accounts);
+    assert_eq!(counts[PIXELS - 1], words.len(), "the tally's last count");
+    let most = counts.iter().copied().max().expect("a bed has pixels");
+    let expected = |m: usize| words.iter().copied().chain(std::iter::repeat(0)).take(m).collect::<Vec<u32>>();
+    let same = |got: &[u32], m: usize| assert!(got == expected(m), "the slots after a scan of order 10");
+
+    let (number, taken, last, slots) = fed(kind, PIXELS, &accounts, PIXELS);
+    assert_eq!((number, taken, last), (0, PIXELS, vec![words.len()]));
+    same(&slots, PIXELS);
+    let (number, taken, after, slots) = fed(kind, most, &accounts, piece);
+    assert_eq!((number, taken), (0, PIXELS), "just enough slots");
+    let pieces: Vec<usize> = counts.chunks(piece).map(|counts| counts[counts.len() - 1]).collect();
+    assert_eq!(after, pieces, "tile counts after each piece");
+    same(&slots, most);
+    if most > 0 {
+        let stop = counts.iter().position(|&count| count == most).expect("the most is met");
+        let (number, taken, _, slots) = fed(kind, most - 1, &accounts, PIXELS);
+        assert_eq!((number, taken), (25, stop), "one slot too few");
+        let mut bed = Bed::fresh(kind, ORDER).expect("order 10");
+        for (place, &account) in accounts[..stop].iter().enumerate() {
+            let at = bed.index_of_place(place as u64);
+            bed.accounts[at] = account;
+        }
+        assert!(slots == left(most - 1, &bed.blocks()), "the slots of a stopped feed");
+    }
+}
+
+/// The other calls on a large map.
+fn others(random: &mut Random, count: &mut Count, raster: &[u8], words: &[u32]) {
+    let at = (ORDER, words.len(), words);
+    assert_eq!(count.check(at), 0);
+    assert!(count.decode(at, &vec![0xaa; PIXELS]).1 == raster, "decoding a large bed");
+    for _ in 0..2 {
+        let (column, row) = (random.below(SIDE), random.below(SIDE));
+        assert_eq!(count.lookup(at, column as u32, row as u32), (0, raster[row * SIDE + column]));
+        count.rights(at, column as u32, row as u32, random.between(1, 63) as u8);
+        let (corner, size) = block(random, ORDER);
+        count.part(at, corner, size);
+    }
+    let (number, file) = count.write(at, &vec![0xaa; 6 + 4 * words.len() + 5 * 63]);
+    assert_eq!(number, 0);
+    let mut slots = vec![1; words.len() + 100];
+    assert_eq!(count.read(&file, &mut slots), (0, ORDER, words.len()));
+    assert!(slots[..words.len()] == *words, "a large file read back");
+    let mut tiles = words.len();
+    for _ in 0..3 {
+        let (corner, size) = block(random, ORDER);
+        let (number, after) = count.claim((ORDER, tiles), &mut slots, corner, size, random.below(64) as u8);
+        tiles = if number == 0 { after } else { tiles };
+    }
+    let record = Record { kind: 0, order: ORDER, pixels: PIXELS as u32, tiles };
+    count.feed(record, &mut slots, &[1]);
+    let mut bad = words.to_vec();
+    damage::list(random, &mut bad, ORDER);
+    count.check((ORDER, bad.len(), &bad));
+    let mut bytes = file;
+    damage::file(random, &mut bytes, words.len());
+    count.read(&bytes, &mut slots);
+}
+
+/// A bed of each pattern; the list of the regular ones by their rule, of the others by the plain implementation.
+pub fn patterns(random: &mut Random, count: &mut Count) {
+    let word = |z: u32, account: u32| z << 10 | account;
+    let uniform = vec![63; PIXELS];
+    let checkerboard: Vec<u8> = (0..PIXELS).map(|at| if (at % SIDE + at / SIDE) % 2 == 0 { 5 } else { 0 }).collect();
+    // On a checkerboard the pixels NW and SE of every block of four.
+    let alternate: Vec<u32> = (0..PIXELS as u32).filter(|z| z % 4 == 0 || z % 4 == 3).map(|z| word(z, 5)).collect();
+    // No block of four has one account.
+    let stripes: Vec<u8> = (0..PIXELS).map(|at| 1 + (at % SIDE % 2) as u8).collect();
+    let single: Vec<u32> = (0..PIXELS as u32).map(|z| word(z, 1 + z % 2)).collect();
+    let plain = |raster: &[u8]| {
+        let bed = Bed { order: ORDER, kind: 0, scanned: 0, accounts: raster.to_vec() };
+        bed.blocks().iter().map(|tile| tile.word()).collect::<Vec<u32>>()
+    };
+    let (boards, noise) = (boards(random), noise(random));
+    let (of_boards, of_noise) = (plain(&boards), plain(&noise));
+    let beds = [(uniform, vec![703]), (checkerboard, alternate), (stripes, single), (boards, of_boards), (noise, of_noise)];
+    for (raster, words) in beds {
+        assert!(plain(&raster) == words, "the plain blocks of a bed known by its rule");
+        // Every feed looks at the whole list: row by row where it is short.
+        let piece = if words.len() < 50_000 { SIDE } else { 33 * SIDE + 7 };
+        scans(&raster, &words, 0, piece);
+        scans(&raster, &words, 1, 100_003);
+        others(random, count, &raster, &words);
+    }
+}
+
+/// A bed of order 10 built together with its list.
+pub fn case(random: &mut Random, count: &mut Count) {
+    let (accounts, splits) = (palette(random), random.between(5, 7));
+    let built = Built::random(random, ORDER, &accounts, splits);
+    let piece = random.pick(&[SIDE * 4, 33_333, PIXELS / 2 + 1]);
+    scans(&built.raster, &built.words, random.below(2) as u32, piece);
+    others(random, count, &built.raster, &built.words);
+}

@@ -1,0 +1,149 @@
+//! Every combination of arguments at and past their limits on a few maps, and every bed of order 1 of three accounts.
+
+use crate::pair::Count;
+use crate::plain::bed::Bed;
+use crate::plain::{area, left, Record};
+
+/// Orders, and numbers that would be good orders if they were cut down.
+const ORDERS: [u32; 13] = [0, 1, 2, 3, 9, 10, 11, 12, 255, 256, 258, 1 << 16, u32::MAX];
+const ACCOUNTS: [u8; 11] = [0, 1, 7, 8, 47, 48, 63, 64, 65, 128, 255];
+const COUNTS: [usize; 8] = [0, 1, 3, 4, 5, 6, 1 << 32, usize::MAX];
+
+/// Good lists of their order.
+fn maps() -> Vec<(u32, Vec<u32>)> {
+    vec![
+        (0, vec![]),
+        (0, vec![7]),
+        (2, vec![69, 7177, 8201, 12361]),
+        (10, vec![703]),
+        (10, vec![703 - 64, (4 << 16 | 5) << 10 | 1]),
+    ]
+}
+
+pub fn all(count: &mut Count) {
+    for order in ORDERS {
+        for kind in [0, 1, 2, 256, u32::MAX] {
+            count.fresh(kind, order, &mut vec![3; 5]);
+            count.fresh(kind, order, &mut vec![]);
+        }
+        for tiles in COUNTS {
+            let mut slots = vec![69, 7177, 8201, 12361, u32::MAX];
+            count.check((order, tiles, &slots));
+            count.lookup((order, tiles, &slots), 3, 1);
+            count.part((order, tiles, &slots), 4, 1);
+            count.rights((order, tiles, &slots), 3, 1, 9);
+            count.decode((order, tiles, &slots), &[0xaa; 16]);
+            count.write((order, tiles, &slots), &[0xaa; 40]);
+            count.claim((order, tiles), &mut slots.clone(), 4, 1, 0);
+            for pixels in [0, 15, 16, 17, u32::MAX] {
+                count.feed(Record { kind: 0, order, pixels, tiles }, &mut slots, &[]);
+            }
+        }
+    }
+    for (order, words) in maps() {
+        points(count, order, &words);
+        blocks(count, order, &words);
+        lengths(count, order, &words);
+        records(count, order, &words);
+    }
+    order_one(count);
+}
+
+fn points(count: &mut Count, order: u32, words: &[u32]) {
+    let side = 1u32 << order;
+    let ends = [0, side - 1, side, side + 1, 1023, 1024, 1 << 16, 1 << 31, u32::MAX - side + 1, u32::MAX];
+    let at = (order, words.len(), words);
+    for column in ends {
+        for row in ends {
+            count.lookup(at, column, row);
+            count.rights(at, column, row, 0);
+            count.rights(at, column, row, 8);
+        }
+    }
+    for account in ACCOUNTS {
+        count.rights(at, side - 1, 0, account);
+    }
+}
+
+fn blocks(count: &mut Count, order: u32, words: &[u32]) {
+    let end = area(order) as u32;
+    let corners = [0, 1, 3, 4, end / 4, end - 1, end, end + 4, 1 << 20, 1 << 22, 1 << 30, 1 << 31, u32::MAX - 3, u32::MAX];
+    for corner in corners {
+        for size in [0, 1, order.saturating_sub(1), order, order + 1, 10, 11, 15, 16, 31, 32, 33, 1 << 31, u32::MAX] {
+            count.part((order, words.len(), words), corner, size);
+            // Each accepted claim on a bed of order 10 costs the plain bed a million pixels.
+            let claims = &[(63, 40), (0, 0), (1, 2), (64, 0)][..if order < 10 { 4 } else { 1 }];
+            for &(account, room) in claims {
+                let mut slots = words.to_vec();
+                slots.resize(words.len() + room, 0);
+                count.claim((order, words.len()), &mut slots, corner, size, account);
+            }
+        }
+    }
+    for account in ACCOUNTS {
+        count.claim((order, words.len()), &mut words.to_vec(), 0, order, account);
+    }
+}
+
+fn lengths(count: &mut Count, order: u32, words: &[u32]) {
+    let pixels = area(order) as usize;
+    for length in [0, pixels - 1, pixels, pixels + 1, 4 * pixels] {
+        count.decode((order, words.len(), words), &vec![0xaa; length]);
+    }
+    let (_, file) = count.write((order, words.len(), words), &[0xaa; 200]);
+    for length in [0, 1, file.len() - 1, file.len(), file.len() + 1] {
+        count.write((order, words.len(), words), &vec![0xaa; length]);
+    }
+    for cut in 0..=file.len() {
+        for room in 0..words.len() + 2 {
+            count.read(&file[..cut], &mut vec![0xaa; room]);
+        }
+    }
+    for more in 1..7 {
+        let longer: Vec<u8> = file.iter().copied().chain(std::iter::repeat_n(0, more)).collect();
+        count.read(&longer, &mut vec![0xaa; words.len()]);
+    }
+    for first in 0..=255 {
+        let mut other = file.clone();
+        other[0] = first;
+        count.read(&other, &mut vec![0xaa; words.len()]);
+    }
+}
+
+fn records(count: &mut Count, order: u32, words: &[u32]) {
+    let end = area(order) as u32;
+    let kinds = &[0, 1, 2, u32::MAX][..if order < 10 { 4 } else { 2 }];
+    let feeds = &[&[63][..], &[255, 1], &[], &[0], &[64]][..if order < 10 { 5 } else { 2 }];
+    for &kind in kinds {
+        for pixels in [0, end / 2, end - 1, end, end + 1, 1 << 20, 1 << 31, u32::MAX] {
+            for fed in feeds {
+                for room in [0, 1] {
+                    let mut slots = words.to_vec();
+                    slots.resize(words.len() + room, 0x1234);
+                    count.feed(Record { kind, order, pixels, tiles: words.len() }, &mut slots, fed);
+                }
+            }
+        }
+    }
+}
+
+/// All beds of order 1 with accounts 0, 1 and 2, both kinds, with 0 to 4 slots; then every claim on them.
+fn order_one(count: &mut Count) {
+    for bed in 0..81u32 {
+        let accounts: Vec<u8> = (0..4).map(|place| (bed / 3u32.pow(place) % 3) as u8).collect();
+        for (kind, m) in (0..2).flat_map(|kind| (0..5).map(move |m| (kind, m))) {
+            let mut slots = vec![9; m];
+            let (_, fresh) = count.fresh(kind, 1, &mut slots);
+            let (number, taken, record) = count.feed(fresh, &mut slots, &accounts);
+            let mut plain = Bed::fresh(kind, 1).expect("order 1");
+            assert_eq!(plain.feed(m, &accounts), (number, taken));
+            assert_eq!(left(m, &plain.blocks()), slots);
+            for (corner, size) in [(0, 0), (1, 0), (2, 0), (3, 0), (0, 1)] {
+                for account in 0..3 {
+                    count.claim((1, record.tiles), &mut slots.clone(), corner, size, account);
+                    count.part((1, record.tiles, &slots), corner, size);
+                }
+            }
+        }
+    }
+}

@@ -1,0 +1,124 @@
+//! Compares the library with the plain implementation: answers and storage, refusals included.
+//!
+//!     cargo test --test compare                                 half a minute of random cases
+//!     cargo test --test compare -- --seconds 3600               longer
+//!     cargo test --test compare -- --seed 12345                 the same cases again
+//!     cargo test --test compare -- --part lists --case 678      one case again, as a failure prints it
+
+mod damage;
+mod large;
+mod limits;
+mod pair;
+#[path = "../plain/mod.rs"]
+mod plain;
+mod random;
+mod sequences;
+mod worked;
+
+use pair::Count;
+use random::Random;
+use std::panic::{catch_unwind, AssertUnwindSafe};
+use std::time::{Duration, Instant, SystemTime};
+
+type Case = fn(&mut Random, &mut Count);
+
+/// A part of the comparison: its cases are run in rounds of so many.
+struct Part {
+    name: &'static str,
+    case: Case,
+    round: usize,
+}
+
+/// Run once, first.
+const ONCE: [Part; 3] = [
+    Part { name: "worked", case: |_, count| worked::lines(count), round: 1 },
+    Part { name: "limits", case: |_, count| limits::all(count), round: 1 },
+    Part { name: "patterns", case: large::patterns, round: 1 },
+];
+
+/// Run round after round until the time is over.
+const ROUNDS: [Part; 4] = [
+    Part { name: "sequences", case: sequences::case, round: 1000 },
+    Part { name: "lists", case: damage::list_case, round: 5000 },
+    Part { name: "files", case: damage::file_case, round: 5000 },
+    Part { name: "large", case: large::case, round: 1 },
+];
+
+struct Options {
+    seconds: u64,
+    seed: u64,
+    part: Option<String>,
+    case: Option<u64>,
+}
+
+fn options() -> Options {
+    let now = SystemTime::now().duration_since(SystemTime::UNIX_EPOCH).expect("a clock past 1970");
+    let mut options = Options { seconds: 30, seed: now.as_nanos() as u64 % 1_000_000_007, part: None, case: None };
+    let mut arguments = std::env::args().skip(1);
+    while let Some(argument) = arguments.next() {
+        let mut number = || arguments.next().and_then(|text| text.parse().ok()).unwrap_or_else(|| usage());
+        match argument.as_str() {
+            "--seconds" => options.seconds = number(),
+            "--seed" => options.seed = number(),
+            "--case" => options.case = Some(number()),
+            "--part" => options.part = Some(arguments.next().unwrap_or_else(|| usage())),
+            _ => usage(),
+        }
+    }
+    options
+}
+
+fn usage() -> ! {
+    eprintln!("compare [--seconds N] [--seed N] [--part NAME [--case N]]");
+    std::process::exit(2)
+}
+
+/// Runs one case from its own seed; a difference ends the program with the line that runs it again.
+fn run(part: &Part, seed: u64, count: &mut Count) {
+    let mut random = Random::new(seed);
+    if catch_unwind(AssertUnwindSafe(|| (part.case)(&mut random, count))).is_err() {
+        println!("compare: FAILED; again by: cargo test --test compare -- --part {} --case {seed}", part.name);
+        std::process::exit(1);
+    }
+}
+
+fn main() {
+    let options = options();
+    let chosen = |part: &&Part| options.part.as_ref().is_none_or(|name| name == part.name);
+    let mut count = Count::default();
+    if let Some(seed) = options.case {
+        ONCE.iter().chain(&ROUNDS).filter(chosen).for_each(|part| run(part, seed, &mut count));
+        println!("compare: the case passed");
+        return;
+    }
+    println!("compare: seed {}, {} seconds", options.seed, options.seconds);
+    let mut seeds = Random::new(options.seed);
+    let begin = Instant::now();
+    for part in ONCE.iter().filter(chosen) {
+        run(part, seeds.next() >> 1, &mut count);
+    }
+    let mut cases = 0u64;
+    let end = Duration::from_secs(options.seconds);
+    while ROUNDS.iter().any(|part| chosen(&part)) {
+        for part in ROUNDS.iter().filter(chosen) {
+            for _ in 0..part.round {
+                run(part, seeds.next() >> 1, &mut count);
+                cases += 1;
+            }
+        }
+        if begin.elapsed() >= end {
+            break;
+        }
+    }
+    let met: Vec<String> = count.numbers.iter().map(|(number, times)| format!("{number}: {times}")).collect();
+    println!("compare: {cases} random cases, {} calls alike; numbers met: {}", count.calls, met.join(", "));
+    if options.part.is_none() {
+        let missing: Vec<u32> =
+            kingletbed::Refusal::ALL.iter().map(|r| r.number()).filter(|n| !count.numbers.contains_key(n)).collect();
+        if !missing.is_empty() {
+            println!("compare: FAILED; these refusals were never met: {missing:?}");
+            std::process::exit(1);
+        }
+    }
+    println!("compare: passed in {:.0} seconds", begin.elapsed().as_secs_f64());
+}

@@ -1,0 +1,198 @@
+//! Random lists of calls on the same few slots, beside the plain bed. The bed sees what the calls are handed besides record and
+//! slots, nothing of these.
+
+use crate::damage;
+use crate::pair::Count;
+use crate::plain::bed::Bed;
+use crate::plain::{area, file, left, Record, Tile};
+use crate::random::{palette, Built, Random};
+
+/// The record and the slots in use, and the plain bed once a call was accepted.
+struct State {
+    record: Record,
+    slots: Vec<u32>,
+    bed: Option<Bed>,
+    /// Accounts in the order of the scan, for feeds to follow.
+    wanted: Vec<u8>,
+}
+
+pub fn case(random: &mut Random, count: &mut Count) {
+    let slots = match random.below(10) {
+        0 => 0,
+        1..=6 => random.between(1, 14),
+        7 | 8 => random.between(15, 70),
+        _ => 300,
+    };
+    // What record and slots hold before the first accepted call is arbitrary.
+    let mut state = State {
+        record: Record {
+            kind: random.below(3) as u32,
+            order: random.below(12) as u32,
+            pixels: random.below(70) as u32,
+            tiles: random.below(slots + 2),
+        },
+        slots: (0..slots).map(|_| if random.once_in(2) { random.next() as u32 } else { 0 }).collect(),
+        bed: None,
+        wanted: Vec::new(),
+    };
+    let begin = random.below(4);
+    for step in 0..random.between(5, 40) {
+        let call = if step == begin { random.below(2) } else { random.below(20) };
+        match call {
+            0 => fresh(random, count, &mut state),
+            1 => read(random, count, &mut state),
+            2..=9 => feed(random, count, &mut state),
+            10..=14 => claim(random, count, &mut state),
+            _ => ask(random, count, &state),
+        }
+        compare_left(count, &state);
+    }
+}
+
+fn small_order(random: &mut Random) -> u32 {
+    random.pick(&[0, 1, 1, 2, 2, 2, 2, 3, 3, 3, 4, 5])
+}
+
+fn fresh(random: &mut Random, count: &mut Count, state: &mut State) {
+    let order = if random.once_in(12) { random.pick(&[11, 12, 255, 256, 258, u32::MAX]) } else { small_order(random) };
+    let kind = if random.once_in(12) { random.pick(&[2, 256, u32::MAX]) } else { random.below(2) as u32 };
+    let (number, record) = count.fresh(kind, order, &mut state.slots);
+    match Bed::fresh(kind.min(1), order) {
+        Ok(bed) => {
+            assert_eq!(number, 0, "fresh: the plain bed accepts");
+            let splits = random.between(2, 7);
+            let accounts = palette(random);
+            let built = Built::random(random, order, &accounts, splits);
+            state.wanted = (0..area(order)).map(|place| built.raster[bed.index_of_place(place)]).collect();
+            state.record = record;
+            state.bed = Some(bed);
+        }
+        Err(refused) => assert_eq!(number, refused, "fresh: the plain bed refuses"),
+    }
+}
+
+fn feed(random: &mut Random, count: &mut Count, state: &mut State) {
+    let from = state.record.pixels as usize;
+    let length = match random.below(8) {
+        0 => 0,
+        1..=4 => random.between(1, 12),
+        5 | 6 => random.between(1, 90),
+        _ => state.wanted.len() + 1,
+    };
+    let mut accounts: Vec<u8> = (from..from + length).map(|place| state.wanted.get(place).copied().unwrap_or(7)).collect();
+    for _ in 0..random.below(3) {
+        if length > 0 {
+            let at = random.below(length);
+            accounts[at] = if random.once_in(3) { random.pick(&[64, 65, 128, 255]) } else { random.below(64) as u8 };
+        }
+    }
+    let (number, taken, record) = count.feed(state.record, &mut state.slots, &accounts);
+    // A feed hands on the record that it answers, refused or not.
+    state.record = record;
+    if let Some(bed) = &mut state.bed {
+        assert_eq!((number, taken), bed.feed(state.slots.len(), &accounts), "feed: the plain bed answers otherwise");
+    }
+}
+
+fn claim(random: &mut Random, count: &mut Count, state: &mut State) {
+    let order = state.record.order;
+    let (corner, size) = block(random, order);
+    let account = match random.below(8) {
+        0 => random.pick(&[64, 100, 255]),
+        1 | 2 => 0,
+        3 => random.below(64) as u8,
+        _ => state.slots.first().map_or(5, |word| (word % 64) as u8),
+    };
+    let (number, tiles) = count.claim((order, state.record.tiles), &mut state.slots, corner, size, account);
+    if number == 0 {
+        state.record.tiles = tiles;
+    }
+    if let Some(bed) = &mut state.bed {
+        assert_eq!(number, bed.claim(state.slots.len(), corner, size, account), "claim: the plain bed answers otherwise");
+    }
+}
+
+fn read(random: &mut Random, count: &mut Count, state: &mut State) {
+    let (order, splits) = (small_order(random), random.between(2, 6));
+    let accounts = palette(random);
+    let built = Built::random(random, order, &accounts, splits);
+    let tiles: Vec<Tile> = built.words.iter().map(|&word| Tile::of_word(word)).collect();
+    let mut bytes = file::write(order, &tiles);
+    if random.once_in(3) {
+        damage::file(random, &mut bytes, built.words.len());
+    }
+    let (number, order, tiles) = count.read(&bytes, &mut state.slots);
+    match Bed::read(state.slots.len(), &bytes) {
+        Ok(bed) => {
+            assert_eq!(number, 0, "read: the plain bed accepts");
+            state.record = Record { kind: 0, order, pixels: area(order) as u32, tiles };
+            state.bed = Some(bed);
+        }
+        Err(refused) => assert_eq!(number, refused, "read: the plain bed refuses"),
+    }
+}
+
+/// A block of the bed, now and then one that is none.
+pub fn block(random: &mut Random, order: u32) -> (u32, u32) {
+    if random.once_in(8) {
+        return (random.next() as u32 >> random.below(32), random.below(14) as u32);
+    }
+    let size = random.below(order.min(10) as usize + 1) as u32;
+    let corner = random.below(area(order.min(10) - size) as usize) as u32 * area(size) as u32;
+    (corner, size)
+}
+
+/// The calls that change nothing.
+pub fn ask(random: &mut Random, count: &mut Count, asked: &impl AsMap) {
+    let at @ (order, _, slots) = asked.map();
+    let side = 1usize << order.min(10);
+    let (column, row) = (random.below(side + 1) as u32, random.below(side + 1) as u32);
+    match random.below(6) {
+        0 => {
+            count.check(at);
+        }
+        1 => {
+            let length = if random.once_in(3) { random.below(70) } else { area(order.min(5)) as usize };
+            count.decode(at, &vec![0x5a; length]);
+        }
+        2 => {
+            count.lookup(at, column, row);
+        }
+        3 => {
+            let (corner, size) = block(random, order);
+            count.part(at, corner, size);
+        }
+        4 => {
+            let asking = if random.once_in(8) { random.next() as u8 } else { random.between(1, 63) as u8 };
+            count.rights(at, column, row, asking);
+        }
+        _ => {
+            let room = random.below(6 + 4 * slots.len() + 5 * slots.len().min(63) + 3);
+            count.write(at, &vec![0x5a; room]);
+        }
+    }
+}
+
+/// What has a map to ask.
+pub trait AsMap {
+    fn map(&self) -> (u32, usize, &[u32]);
+}
+
+impl AsMap for State {
+    fn map(&self) -> (u32, usize, &[u32]) {
+        (self.record.order, self.record.tiles, &self.slots)
+    }
+}
+
+/// The list left is the bed's blocks, and decodes to its accounts.
+fn compare_left(count: &mut Count, state: &State) {
+    let Some(bed) = &state.bed else { return };
+    let blocks = bed.blocks();
+    assert_eq!(state.record.tiles, blocks.len(), "the tile count left");
+    assert_eq!(state.slots, left(state.slots.len(), &blocks), "the slots left");
+    assert_eq!((state.record.order, state.record.kind), (bed.order, bed.kind), "the record left");
+    assert_eq!(u64::from(state.record.pixels), bed.scanned, "the pixels scanned");
+    let (number, raster) = count.decode(state.map(), &vec![0x5a; bed.accounts.len()]);
+    assert_eq!(number, 0, "decoding what was left");
+    assert_eq!(raster, bed.accounts, "what was left, decoded");
+}

@@ -1,0 +1,123 @@
+//! The worked lines of the scope paper, those that are proved as well. The numbers are the paper's, not the plain implementation's.
+
+use crate::pair::Count;
+use crate::plain::Record;
+
+/// Bed M, order 2, row after row, and its list.
+const M: [u8; 16] = [5, 5, 0, 0, 5, 5, 0, 9, 9, 0, 9, 9, 0, 0, 9, 9];
+const M_WORDS: [u32; 4] = [69, 7177, 8201, 12361];
+
+fn word(corner: u32, size: u32, account: u32) -> u32 {
+    corner * 1024 + size * 64 + account
+}
+
+/// Scans accounts with m slots: the number, the count taken, the record and the slots.
+fn scanned(count: &mut Count, kind: u32, order: u32, m: usize, accounts: &[u8]) -> (u32, usize, Record, Vec<u32>) {
+    let mut slots = vec![u32::MAX; m];
+    let (number, record) = count.fresh(kind, order, &mut slots);
+    assert_eq!(number, 0);
+    let (number, taken, record) = count.feed(record, &mut slots, accounts);
+    (number, taken, record, slots)
+}
+
+pub fn lines(count: &mut Count) {
+    bed_m(count);
+    small_beds(count);
+    limits(count);
+    rights(count);
+    places(count);
+}
+
+fn bed_m(count: &mut Count) {
+    assert_eq!(M_WORDS, [word(0, 1, 5), word(7, 0, 9), word(8, 0, 9), word(12, 1, 9)]);
+    let (number, taken, record, slots) = scanned(count, 0, 2, 6, &M);
+    assert_eq!((number, taken, record.tiles), (0, 16, 4));
+    assert_eq!(slots, [69, 7177, 8201, 12361, 0, 0]);
+    let (number, taken, ..) = scanned(count, 0, 2, 5, &M);
+    assert_eq!((number, taken), (25, 14));
+
+    let at = (2, 4, &M_WORDS[..]);
+    assert_eq!(count.decode(at, &[0; 16]), (0, M.to_vec()));
+    let (number, file) = count.write(at, &[0xee; 40]);
+    assert_eq!((number, file.len()), (0, 32));
+    let entries: Vec<&[u8]> = file[22..].chunks(5).collect();
+    assert_eq!(file[21], 2);
+    assert!(entries.contains(&&[5, 0, 0, 0, 4][..]) && entries.contains(&&[9, 0, 0, 0, 6][..]));
+    let mut slots = vec![1; 7];
+    assert_eq!(count.read(&file, &mut slots), (0, 2, 4));
+    assert_eq!(slots, [69, 7177, 8201, 12361, 0, 0, 0]);
+    assert_eq!(count.write(at, &[0; 31]).0, 26);
+
+    assert_eq!(count.part(at, 4, 1), (0, 1, 1));
+    assert_eq!(count.part(at, 12, 0), (0, 3, 0));
+    assert_eq!(count.lookup(at, 3, 1), (0, 9));
+    assert_eq!(count.lookup(at, 4, 1).0, 31);
+
+    let mut slots = M_WORDS.to_vec();
+    slots.resize(6, 0);
+    assert_eq!(count.claim((2, 4), &mut slots, 3, 0, 0), (0, 6));
+    assert_eq!(slots, [word(0, 0, 5), word(1, 0, 5), word(2, 0, 5), 7177, 8201, 12361]);
+}
+
+fn small_beds(count: &mut Count) {
+    let (number, taken, record, slots) = scanned(count, 0, 1, 3, &[7; 4]);
+    assert_eq!((number, taken, record.tiles, slots[0]), (0, 4, 1, word(0, 1, 7)));
+    let (number, taken, ..) = scanned(count, 0, 1, 2, &[7; 4]);
+    assert_eq!((number, taken), (25, 2));
+    let (number, taken, record, _) = scanned(count, 0, 0, 0, &[0]);
+    assert_eq!((number, taken, record.tiles), (0, 1, 0));
+    // The listing program's example.
+    let (number, taken, record, slots) = scanned(count, 0, 1, 4096, &[7, 7, 0, 7]);
+    assert_eq!((number, taken, record.tiles), (0, 4, 3));
+    assert_eq!(slots[..3], [word(0, 0, 7), word(1, 0, 7), word(3, 0, 7)]);
+}
+
+fn limits(count: &mut Count) {
+    assert_eq!(count.check((10, 1, &[703])), 0);
+    assert_eq!(count.check((10, 1, &[703 + 64])), 12);
+    assert_eq!(scanned(count, 0, 2, 16, &[63]).0, 0);
+    assert_eq!(scanned(count, 0, 2, 16, &[64]).0, 24);
+    let mut slots = M_WORDS.to_vec();
+    slots.resize(16, 0);
+    assert_eq!(count.claim((2, 4), &mut slots.clone(), 4, 0, 63).0, 0);
+    assert_eq!(count.claim((2, 4), &mut slots, 4, 0, 64).0, 24);
+    assert_eq!(count.read(&[], &mut slots).0, 41);
+    // A file's tile count that four times over would be small.
+    assert_eq!(count.read(&[2, 0x40, 0, 0, 0, 0], &mut slots).0, 25);
+    assert_eq!(count.read(&[11], &mut slots).0, 1);
+}
+
+/// The table of rights: askers and holders from each class, at the ends of each range.
+fn rights(count: &mut Count) {
+    let classes = [[1, 7], [8, 47], [48, 63]];
+    // own, nobody's, another guest's, another student's, another staff member's
+    let table = [[1, 1, 1, 1, 0], [1, 1, 0, 0, 0], [1, 0, 0, 0, 0]];
+    for (class, askers) in classes.iter().enumerate() {
+        for &asking in askers {
+            for (kind, holders) in [vec![asking], vec![0], vec![48, 63], vec![8, 47], vec![1, 7]].iter().enumerate() {
+                for &holder in holders {
+                    if kind > 0 && holder == asking {
+                        continue;
+                    }
+                    let slots = if holder == 0 { vec![] } else { vec![word(0, 0, u32::from(holder))] };
+                    let answer = count.rights((0, slots.len(), &slots), 0, 0, asking);
+                    assert_eq!(answer, (0, table[class][kind] == 1), "{asking} asks for a pixel of {holder}");
+                }
+            }
+        }
+    }
+    for asking in [0, 64, 255] {
+        assert_eq!(count.rights((2, 4, &M_WORDS), 3, 3, asking).0, 34);
+        assert_eq!(count.rights((2, 4, &M_WORDS), 4, 0, asking).0, 31);
+    }
+}
+
+/// Morton numbers, through the corner of a single pixel fed by rows.
+fn places(count: &mut Count) {
+    for (column, row, corner) in [(2, 1, 6), (5, 0, 17)] {
+        let mut accounts = vec![0; 64];
+        accounts[row * 8 + column] = 9;
+        assert_eq!(scanned(count, 0, 3, 1, &accounts).3, [word(corner, 0, 9)]);
+        assert_eq!(count.lookup((3, 1, &[word(corner, 0, 9)]), column as u32, row as u32), (0, 9));
+    }
+}

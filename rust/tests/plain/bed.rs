@@ -1,0 +1,150 @@
+//! The plain bed: order, kind, pixels scanned, and an account for each pixel. It is never handed a record or slots.
+
+use super::tally::Tally;
+use super::{area, file, pixel, Tile};
+
+#[derive(Clone, Debug, PartialEq, Eq)]
+pub struct Bed {
+    pub order: u32,
+    pub kind: u32,
+    pub scanned: u64,
+    /// Row after row.
+    pub accounts: Vec<u8>,
+}
+
+impl Bed {
+    /// A fresh bed; 1 refuses.
+    pub fn fresh(kind: u32, order: u32) -> Result<Bed, u32> {
+        if order > 10 {
+            return Err(1);
+        }
+        Ok(Bed { order, kind, scanned: 0, accounts: vec![0; area(order) as usize] })
+    }
+
+    pub fn side(&self) -> usize {
+        2usize.pow(self.order)
+    }
+
+    /// Where in `accounts` the place of the scan lies.
+    pub fn index_of_place(&self, place: u64) -> usize {
+        if self.kind == 0 {
+            return place as usize;
+        }
+        self.index_of_morton(place)
+    }
+
+    pub fn index_of_morton(&self, morton: u64) -> usize {
+        let (column, row) = pixel(morton);
+        row * self.side() + column
+    }
+
+    /// The largest uniform blocks of non-zero accounts, by rising corner.
+    pub fn blocks(&self) -> Vec<Tile> {
+        let mut found = Vec::new();
+        self.blocks_in(0, self.order, &mut found);
+        found
+    }
+
+    fn blocks_in(&self, corner: u64, size: u32, found: &mut Vec<Tile>) {
+        if let Some(account) = self.uniform(corner, size) {
+            if account != 0 {
+                found.push(Tile { corner, size, account });
+            }
+            return;
+        }
+        for quarter in 0..4 {
+            self.blocks_in(corner + quarter * area(size - 1), size - 1, found);
+        }
+    }
+
+    /// The account of a block, if all its pixels have the same.
+    fn uniform(&self, corner: u64, size: u32) -> Option<u8> {
+        let start = self.index_of_morton(corner);
+        let account = self.accounts[start];
+        for row in 0..2usize.pow(size) {
+            let from = start + row * self.side();
+            if self.accounts[from..from + 2usize.pow(size)].iter().any(|&other| other != account) {
+                return None;
+            }
+        }
+        Some(account)
+    }
+
+    /// Feeds accounts with m slots: the number that stopped it and the count taken.
+    pub fn feed(&mut self, m: usize, accounts: &[u8]) -> (u32, usize) {
+        let unscanned = self.scanned..area(self.order);
+        if unscanned.into_iter().any(|place| self.accounts[self.index_of_place(place)] != 0) {
+            return (22, 0);
+        }
+        // No bed has more blocks than pixels. The others are counted anew at each pixel; on large beds the count is kept instead.
+        let roomy = m as u64 >= area(self.order);
+        let mut tally = if !roomy && self.order > 6 { Some(Tally::of(self)) } else { None };
+        for (taken, &account) in accounts.iter().enumerate() {
+            if self.scanned == area(self.order) {
+                return (23, taken);
+            }
+            if account > 63 {
+                return (24, taken);
+            }
+            let at = self.index_of_place(self.scanned);
+            let before = std::mem::replace(&mut self.accounts[at], account);
+            let blocks = match &mut tally {
+                Some(tally) => tally.set(at, account),
+                None if roomy => 0,
+                None => self.blocks().len(),
+            };
+            if blocks > m {
+                self.accounts[at] = before;
+                return (25, taken);
+            }
+            self.scanned += 1;
+        }
+        (0, accounts.len())
+    }
+
+    /// Claims a block with m slots: the refusal number or 0.
+    pub fn claim(&mut self, m: usize, corner: u32, size: u32, account: u8) -> u32 {
+        if !block_in(self.order, corner, size) {
+            return 32;
+        }
+        if account > 63 {
+            return 24;
+        }
+        let mut after = self.clone();
+        for morton in u64::from(corner)..u64::from(corner) + area(size) {
+            let at = after.index_of_morton(morton);
+            after.accounts[at] = account;
+        }
+        if after.blocks().len() > m {
+            return 25;
+        }
+        *self = after;
+        0
+    }
+
+    /// Reads a file with m slots: the bed that it shows, by rows and wholly scanned.
+    pub fn read(m: usize, bytes: &[u8]) -> Result<Bed, u32> {
+        let (order, tiles) = file::read(bytes, m)?;
+        Ok(Bed { order, kind: 0, scanned: area(order), accounts: painted(order, &tiles) })
+    }
+}
+
+/// Whether a corner and a size are a block of the bed.
+pub fn block_in(order: u32, corner: u32, size: u32) -> bool {
+    size <= order && u64::from(corner) < area(order) && u64::from(corner) % area(size) == 0
+}
+
+/// The accounts of a bed, row after row, with the tiles painted on nobody's ground.
+pub fn painted(order: u32, tiles: &[Tile]) -> Vec<u8> {
+    let side = 2usize.pow(order);
+    let mut accounts = vec![0; side * side];
+    for tile in tiles {
+        let (column, row) = pixel(tile.corner);
+        for y in row..row + 2usize.pow(tile.size) {
+            for x in column..column + 2usize.pow(tile.size) {
+                accounts[y * side + x] = tile.account;
+            }
+        }
+    }
+    accounts
+}

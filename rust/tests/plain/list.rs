@@ -1,0 +1,215 @@
+//! The calls that are handed an order or a record, a count and slots. Each gives its answer; those that write give the storage too.
+
+use super::bed::{block_in, painted, Bed};
+use super::{area, file, left, pixel, Record, Tile};
+
+/// The tiles of a list whose words have passed their checks; their corners rise.
+#[derive(Default)]
+pub struct Seen {
+    tiles: Vec<Tile>,
+}
+
+impl Seen {
+    /// Checks the next word of a list of an order: 11 to 16, or 0.
+    pub fn next(&mut self, order: u32, word: u32) -> u32 {
+        let tile = Tile::of_word(word);
+        if word / (1 << 30) != 0 {
+            return 11;
+        }
+        if tile.size > order {
+            return 12;
+        }
+        if tile.corner >= area(order) || tile.corner % area(tile.size) != 0 {
+            return 13;
+        }
+        if tile.account == 0 {
+            return 14;
+        }
+        if self.tiles.last().is_some_and(|ahead| tile.corner < ahead.end()) {
+            return 15;
+        }
+        let parent = tile.corner - tile.corner % area(tile.size + 1);
+        let mut siblings = (0..3).map(|quarter| Tile { corner: parent + quarter * area(tile.size), ..tile });
+        if tile.corner == parent + 3 * area(tile.size) && siblings.all(|sibling| self.has(sibling)) {
+            return 16;
+        }
+        self.tiles.push(tile);
+        0
+    }
+
+    fn has(&self, tile: Tile) -> bool {
+        self.tiles.binary_search_by_key(&tile.corner, |seen| seen.corner).is_ok_and(|at| self.tiles[at] == tile)
+    }
+}
+
+pub fn check(order: u32, tiles: usize, slots: &[u32]) -> u32 {
+    if order > 10 {
+        return 1;
+    }
+    if tiles > slots.len() {
+        return 2;
+    }
+    let mut seen = Seen::default();
+    slots[..tiles].iter().map(|&word| seen.next(order, word)).find(|&number| number != 0).unwrap_or(0)
+}
+
+/// The tiles of a list that passes its checks.
+fn checked(order: u32, tiles: usize, slots: &[u32]) -> Result<Vec<Tile>, u32> {
+    match check(order, tiles, slots) {
+        0 => Ok(slots[..tiles].iter().map(|&word| Tile::of_word(word)).collect()),
+        number => Err(number),
+    }
+}
+
+pub fn fresh(kind: u32, order: u32, slots: &[u32]) -> (u32, Record, Vec<u32>) {
+    let kind = kind.min(1);
+    if order > 10 {
+        return (1, Record { kind, order: 0, pixels: 0, tiles: 0 }, slots.to_vec());
+    }
+    (0, Record { kind, order, pixels: 0, tiles: 0 }, vec![0; slots.len()])
+}
+
+/// The number, the count taken, the record and the slots.
+pub fn feed(record: Record, slots: &[u32], accounts: &[u8]) -> (u32, usize, Record, Vec<u32>) {
+    let record = Record { kind: record.kind.min(1), ..record };
+    let mut bed = match opened(record, slots) {
+        Ok(bed) => bed,
+        Err(number) => return (number, 0, record, slots.to_vec()),
+    };
+    let (number, taken) = bed.feed(slots.len(), accounts);
+    let blocks = bed.blocks();
+    let after = Record { pixels: bed.scanned as u32, tiles: blocks.len(), ..record };
+    (number, taken, after, left(slots.len(), &blocks))
+}
+
+/// The bed of a record and its list, or the opening check of a feed that refuses it.
+fn opened(record: Record, slots: &[u32]) -> Result<Bed, u32> {
+    let tiles = checked(record.order, record.tiles, slots)?;
+    if u64::from(record.pixels) > area(record.order) {
+        return Err(21);
+    }
+    let side = 2u64.pow(record.order);
+    for tile in &tiles {
+        for morton in tile.corner..tile.end() {
+            let (column, row) = pixel(morton);
+            let place = if record.kind == 0 { row as u64 * side + column as u64 } else { morton };
+            if place >= u64::from(record.pixels) {
+                return Err(22);
+            }
+        }
+    }
+    Ok(Bed { order: record.order, kind: record.kind, scanned: u64::from(record.pixels), accounts: painted(record.order, &tiles) })
+}
+
+pub fn decode(order: u32, tiles: usize, slots: &[u32], raster: &[u8]) -> (u32, Vec<u8>) {
+    match checked(order, tiles, slots) {
+        Err(number) => (number, raster.to_vec()),
+        Ok(_) if raster.len() as u64 != area(order) => (33, raster.to_vec()),
+        Ok(tiles) => (0, painted(order, &tiles)),
+    }
+}
+
+pub fn lookup(order: u32, tiles: usize, slots: &[u32], column: u32, row: u32) -> (u32, u8) {
+    let tiles = match checked(order, tiles, slots) {
+        Err(number) => return (number, 0),
+        Ok(tiles) => tiles,
+    };
+    let side = 2u32.pow(order);
+    if column >= side || row >= side {
+        return (31, 0);
+    }
+    (0, painted(order, &tiles)[(row * side + column) as usize])
+}
+
+/// The number, the position and the length.
+pub fn part(order: u32, tiles: usize, slots: &[u32], corner: u32, size: u32) -> (u32, usize, usize) {
+    let tiles = match checked(order, tiles, slots) {
+        Err(number) => return (number, 0, 0),
+        Ok(tiles) => tiles,
+    };
+    if !block_in(order, corner, size) {
+        return (32, 0, 0);
+    }
+    let corner = u64::from(corner);
+    let inside = |tile: &Tile| tile.corner >= corner && tile.end() <= corner + area(size);
+    let position = tiles.iter().filter(|tile| tile.corner < corner).count();
+    let length = tiles.iter().filter(|tile| inside(tile)).count();
+    assert!(tiles[position..position + length].iter().all(inside), "the tiles inside are one run");
+    (0, position, length)
+}
+
+/// Who a pixel or an asker is.
+#[derive(Clone, Copy, PartialEq, Eq)]
+enum Class {
+    Staff,
+    Student,
+    Guest,
+}
+
+fn class(account: u8) -> Class {
+    match account {
+        1..=7 => Class::Staff,
+        8..=47 => Class::Student,
+        48..=63 => Class::Guest,
+        _ => panic!("account {account} has no class"),
+    }
+}
+
+pub fn rights(order: u32, tiles: usize, slots: &[u32], column: u32, row: u32, asking: u8) -> (u32, bool) {
+    let (number, holder) = lookup(order, tiles, slots, column, row);
+    if number != 0 {
+        return (number, false);
+    }
+    if asking == 0 || asking > 63 {
+        return (34, false);
+    }
+    if holder == asking {
+        return (0, true);
+    }
+    let yes = match (class(asking), holder) {
+        (Class::Guest, _) => false,
+        (_, 0) => true,
+        (Class::Student, _) => false,
+        (Class::Staff, _) => class(holder) != Class::Staff,
+    };
+    (0, yes)
+}
+
+/// The number, the tile count and the slots.
+pub fn claim(order: u32, tiles: usize, slots: &[u32], corner: u32, size: u32, account: u8) -> (u32, usize, Vec<u32>) {
+    let tiles = match checked(order, tiles, slots) {
+        Err(number) => return (number, 0, slots.to_vec()),
+        Ok(tiles) => tiles,
+    };
+    let mut bed = Bed { order, kind: 0, scanned: area(order), accounts: painted(order, &tiles) };
+    match bed.claim(slots.len(), corner, size, account) {
+        0 => {
+            let blocks = bed.blocks();
+            (0, blocks.len(), left(slots.len(), &blocks))
+        }
+        number => (number, 0, slots.to_vec()),
+    }
+}
+
+/// The number, the length and the bytes.
+pub fn write(order: u32, tiles: usize, slots: &[u32], bytes: &[u8]) -> (u32, usize, Vec<u8>) {
+    let tiles = match checked(order, tiles, slots) {
+        Err(number) => return (number, 0, bytes.to_vec()),
+        Ok(tiles) => tiles,
+    };
+    let file = file::write(order, &tiles);
+    if bytes.len() < file.len() {
+        return (26, 0, bytes.to_vec());
+    }
+    let mut after = bytes.to_vec();
+    after[..file.len()].copy_from_slice(&file);
+    (0, file.len(), after)
+}
+
+/// The number, the order, the tile count and the slots.
+pub fn read(bytes: &[u8], slots: &[u32]) -> (u32, u32, usize, Vec<u32>) {
+    match file::read(bytes, slots.len()) {
+        Err(number) => (number, 0, 0, slots.to_vec()),
+        Ok((order, tiles)) => (0, order, tiles.len(), left(slots.len(), &tiles)),
+    }
+}
