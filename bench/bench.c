@@ -202,7 +202,8 @@ int main(int argc, char **argv)
         if (pass == 1)
             printf("\nOther calls: nanoseconds for each tile (decode: pixel; fresh: slot) × the library's time divided by that of "
                    "straightforward C.\nEvery call but read and fresh checks the whole list first. For the roster, straightforward C keeps "
-                   "an array of totals; the library counts each account from the list.\n\n| order | bed | tiles | check | lookup | part | rights | claim | write | read | decode | fresh |\n"
+                   "an array of totals; the library counts each account from the list.\n\n"
+                   "| order | bed | tiles | check | lookup | part | rights | claim | write | read | decode | fresh |\n"
                    "|---|---|---|---|---|---|---|---|---|---|---|---|\n");
         for (uint32_t order = lowest; order <= highest; order++) {
             b.linked = linked_new(order);

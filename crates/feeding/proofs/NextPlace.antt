@@ -1,5 +1,6 @@
 -- The next place of a scan: as the shifts of the code compute it, and what it awaits.
---     place-rows, place-morton   the Morton number of the pixel, by kind
+--     place-shift, place-sides   its column and its row are numbers, and those of the largest bed
+--     place-rows, place-morton   the pixel and its levels, by kind
 --     place-low                  it lies in the largest bed
 --     holds-awaits               where what is not scanned is nobody's, the list awaits the pixel at the next place
 --     holds-next                 and with this pixel scanned, what is not scanned is still nobody's
@@ -9,7 +10,7 @@ use Prim.Native.Nat.{ℕ, _+_, _-_, _*_, _/_, _%_, _^_, _≤_, _<_}
 use native.Mathlib.Nat.{div-add-mod', mod-lt, div-lt-iff-lt-mul}
 use native.Mathlib.Decide.{decLt}
 use native.Mathlib.Omega.{arith}
-use lib.Pow.{pow-pos}
+use lib.Pow.{pow-pos, pow-mono}
 use Rattle.morton.specs.Morton.{morton, sideBits}
 use Rattle.morton.proofs.MortonLaws.{morton-wide}
 use Rattle.tile.specs.Tile.{Tile, highestOrder}
@@ -22,24 +23,37 @@ use Rattle.bed.specs.declared.Kind.the-variants.{Rows, Morton}
 use Rattle.bed.specs.Places.{placeOf, pixelAt}
 use Rattle.bed.specs.Bed.{putPixel}
 use Rattle.bed.proofs.PlaceLaws.{area-sides, pixelAt-lt, placeOf-pixelAt, placeOf-last}
+use Rattle.merging.specs.Merging.{Levels}
 use Rattle.gap.specs.Gap.{Awaits}
-use Rattle.feeding.specs.Feeding.{bedOf, Holds}
+use Rattle.feeding.specs.Feeding.{AtPlace, bedOf, Holds}
+use Rattle.feeding.specs.declared.Place.{Place}
 
-pub place-rows : (k : Kind) (n s z : ℕ) → k ≡ Rows → n ≤ highestOrder → s < 4 ^ n → z ≡ morton sideBits (s - s / 2 ^ n * 2 ^ n % 2 ^ 32) (s / 2 ^ n) → z ≡ pixelAt k n s
+module _ (n s : ℕ) (h : n ≤ highestOrder) (l : s < 4 ^ n) where
+  abbrev column : ℕ
+  column = s - s / 2 ^ n * 2 ^ n % 2 ^ 32
+
+  abbrev row : ℕ
+  row = s / 2 ^ n
+
+  pub place-shift : s / 2 ^ n * 2 ^ n % 2 ^ 32 ≤ s
+  place-shift = let big : 4 ^ n ≤ 4 ^ highestOrder = area-mono h in omega (arith, div-add-mod' s (2 ^ n))
+
+  column-is : column ≡ s % 2 ^ n
+  column-is = let big : 4 ^ n ≤ 4 ^ highestOrder = area-mono h in omega (arith, div-add-mod' s (2 ^ n))
+
+  row-below : row < 2 ^ n
+  row-below = div-lt-iff-lt-mul (pow-pos n) .1 (omega (arith, area-sides n))
+
+  pub place-sides : (column < 2 ^ highestOrder) × (row < 2 ^ highestOrder)
+  place-sides = let big : 2 ^ n ≤ 2 ^ highestOrder = pow-mono h in (omega (arith, column-is, mod-lt s (pow-pos n)), omega (arith, row-below))
+
+  pub place-rows : (k : Kind) (p : Place) → k ≡ Rows → p .z ≡ morton sideBits column row → Levels (morton sideBits column row) (p .levels) → AtPlace k n s p
+  unfolding pixelAt
+  place-rows k p e q v = record { z = rw e (q ∙ rw column-is (morton-wide n sideBits (s % 2 ^ n) row h (mod-lt s (pow-pos n)) row-below)); levels = rw (← q) at v }
+
+pub place-morton : (k : Kind) (n s : ℕ) (p : Place) → k ≡ Morton → p .z ≡ s → Levels s (p .levels) → AtPlace k n s p
 unfolding pixelAt
-place-rows k n s z e h l q =
-    let big : 4 ^ n ≤ 4 ^ highestOrder = area-mono h in
-    let d = div-add-mod' s (2 ^ n) in
-    let c : s - s / 2 ^ n * 2 ^ n % 2 ^ 32 ≡ s % 2 ^ n = omega arith in
-    let r : s / 2 ^ n < 2 ^ n = div-lt-iff-lt-mul (pow-pos n) .1 (omega (arith, area-sides n)) in
-    rw e (q ∙ rw c (morton-wide n sideBits (s % 2 ^ n) (s / 2 ^ n) h (mod-lt s (pow-pos n)) r))
-
-pub place-shift : (n s : ℕ) → n ≤ highestOrder → s < 4 ^ n → s / 2 ^ n * 2 ^ n % 2 ^ 32 ≤ s
-place-shift n s h l = let big : 4 ^ n ≤ 4 ^ highestOrder = area-mono h in omega (arith, div-add-mod' s (2 ^ n))
-
-pub place-morton : (k : Kind) (n s : ℕ) → k ≡ Morton → s ≡ pixelAt k n s
-unfolding pixelAt
-place-morton k n s e = rw e
+place-morton k n s p e q v = record { z = rw e q; levels = rw (← q) at v }
 
 pub place-low : (k : Kind) (n s z : ℕ) → n ≤ highestOrder → s < 4 ^ n → z ≡ pixelAt k n s → z < 4 ^ highestOrder
 place-low k n s z h l e = let big : 4 ^ n ≤ 4 ^ highestOrder = area-mono h in omega (arith, pixelAt-lt k n s l)

@@ -1,4 +1,5 @@
 -- One account of a feed and all of them, on a list with a gap: what the contracts of this crate cite. Definitions only.
+--     AtPlace k n s p             p is the pixel with s places before its own in the scan of kind k and order n, with its levels
 --     bedOf k n s f               the plain bed of kind k and order n with s pixels scanned and the raster f
 --     pixelCheck m b a            23, 24 and 25 of the account a on the next place of the bed b, with m slots
 --     Holds k n s f ts            ts is the list of this bed, and what is not scanned is nobody's
@@ -20,12 +21,17 @@ use Rattle.quadtree.specs.Quadtree.{quadtree}
 use Rattle.quadtree.specs.Valid.{Valid}
 use Rattle.bed.specs.declared.Kind.{Kind}
 use Rattle.bed.specs.declared.Scan.{Scan}
-use Rattle.bed.specs.Places.{placeOf}
+use Rattle.bed.specs.Places.{placeOf, pixelAt}
 use Rattle.bed.specs.Bed as bed
-use Rattle.merging.specs.Merging.{tiles}
+use Rattle.merging.specs.Merging.{tiles, Levels}
 use Rattle.gap.specs.Gap.{held, Fits}
+use Rattle.feeding.specs.declared.Place.{Place}
 use Rattle.feeding.specs.declared.Step.{Step}
 use Rattle.feeding.specs.declared.Run.{Run}
+
+pub record AtPlace (k : Kind) (n s : ℕ) (p : Place) : Type 0 where
+  pub z : p .z ≡ pixelAt k n s
+  pub levels : Levels (p .z) (p .levels)
 
 abbrev pub bedOf : Kind → ℕ → ℕ → (ℕ → ℕ) → bed.Bed
 bedOf k n s f = record { order = n; kind = k; scanned = s; account = f }

@@ -1,12 +1,18 @@
 // Pixels fed to a list with a gap, one account after the other.
-ghost use mathlib.Core.Path.{_≡_};
 ghost use Prim.Native.Nat.{_^_, _<_, _≤_};
 ghost use lib.ListN.{length};
+ghost use Rattle.morton.specs.Morton.{morton, sideBits};
 ghost use Rattle.tile.specs.Tile.{highestOrder};
-ghost use Rattle.bed.specs.Places.{pixelAt};
 ghost use Rattle.bed.specs.Bed.{shownBed, feedPixels};
+ghost use Rattle.merging.specs.Merging.{Levels};
 ghost use Rattle.gap.specs.Gap.{Fits};
-ghost use Rattle.feeding.specs.Feeding.{Stepped, Opened, FedTo};
+ghost use Rattle.feeding.specs.Feeding.{AtPlace, Stepped, Opened, FedTo};
+
+// A pixel's Morton number, and its levels: the size of the largest block that ends with it, which is as often as it can merge.
+pub struct Place {
+    pub z: u32,
+    pub levels: u32,
+}
 
 // What one account leaves: its refusal, or that it is accepted, and where the list has its gap.
 pub struct Step {
@@ -24,17 +30,43 @@ pub struct Run {
     pub back: usize,
 }
 
-// The Morton number of the pixel with `pixels` places before its own.
-fn next_place(kind: bed::Kind, order: u32, pixels: u32) -> u32
+// The levels of the pixel at a column and a row: the smaller of i and j, where 2^i and 2^j are the largest powers of two that divide column + 1
+// and row + 1.
+fn row_levels(column: u32, row: u32) -> u32
+    requires { ⌜ (column < 2 ^ highestOrder) × (row < 2 ^ highestOrder) ⌝ }
+    ensures { λ r. ⌜ Levels (morton sideBits column row) r ⌝ }
+{
+    let across = u32::trailing_zeros(column + 1);
+    let down = u32::trailing_zeros(row + 1);
+    if across < down { across } else { down }
+}
+
+// The levels of the pixel z: half the trailing zeros of the number behind it.
+fn morton_levels(z: u32) -> u32
+    requires { ⌜ z < 4 ^ highestOrder ⌝ }
+    ensures { λ r. ⌜ Levels z r ⌝ }
+{
+    u32::trailing_zeros(z + 1) / 2
+}
+
+// The pixel with `pixels` places before its own, and its levels.
+fn next_place(kind: bed::Kind, order: u32, pixels: u32) -> Place
     requires { ⌜ (order ≤ highestOrder) × (pixels < 4 ^ order) ⌝ }
-    ensures { λ r. ⌜ r ≡ pixelAt kind order pixels ⌝ }
+    ensures { λ r. ⌜ AtPlace kind order pixels r ⌝ }
 {
     match kind {
         bed::Kind::Rows => {
             let row = pixels >> order;
-            morton::number(pixels - (row << order), row)
+            let column = pixels - (row << order);
+            Place {
+                z: morton::number(column, row),
+                levels: row_levels(column, row),
+            }
         }
-        bed::Kind::Morton => pixels,
+        bed::Kind::Morton => Place {
+            z: pixels,
+            levels: morton_levels(pixels),
+        },
     }
 }
 
@@ -66,8 +98,8 @@ fn feed_pixel(
             back,
         };
     }
-    let z = next_place(kind, order, pixels);
-    let put = gap::put(slots, front, back, z, account);
+    let place = next_place(kind, order, pixels);
+    let put = gap::put(slots, front, back, place.z, place.levels, account);
     if put.full {
         return Step {
             number: refusal::SLOTS_EXCEEDED,

@@ -5,6 +5,7 @@ ghost use mathlib.Core.List.{_++_};
 ghost use Prim.Native.Nat.{_-_, _^_, _<_, _≤_};
 ghost use lib.ListN.{replicate};
 ghost use Rattle.tile.specs.Tile.{highestOrder, highestAccount};
+ghost use Rattle.merging.specs.Merging.{Levels};
 ghost use Rattle.gap.specs.Gap.{held, Fits, Placed, Pushed, Low, High, Moved};
 
 // Where the two parts of a list end and start.
@@ -26,13 +27,15 @@ pub struct Outcome {
     pub back: usize,
 }
 
-// Puts the pixel z of an account behind the front part, where a slot is free for the tile that is left after merging.
-fn push(slots: &mut [u32], front: usize, back: usize, z: u32, account: u8) -> Front
+// Puts the pixel z of an account behind the front part, where a slot is free for the tile that is left after merging. It merges over at most
+// `levels` levels: the largest block that ends with z has this size.
+fn push(slots: &mut [u32], front: usize, back: usize, z: u32, levels: u32, account: u8) -> Front
     requires { ⌜ Fits (now slots) front back ⌝ }
     requires { ⌜ (z < 4 ^ highestOrder) × (account ≤ highestAccount) ⌝ }
+    requires { ⌜ Levels z levels ⌝ }
     ensures { λ r. ⌜ Pushed (now (slots .entry)) (now (slots .exit)) front back z account r ⌝ }
 {
-    let top = merging::merge(slots, front, z, account);
+    let top = merging::merge(slots, front, z, levels, account);
     let at = top.at;
     let size = top.size;
     if at == back {
@@ -98,10 +101,19 @@ fn seek(slots: &mut [u32], front: usize, back: usize, z: u32) -> Gap
     widen_front(slots, g.front, g.back, z)
 }
 
-// Puts an account on the pixel z of the list, if the list that this makes has a slot for each of its tiles.
-pub fn put(slots: &mut [u32], front: usize, back: usize, z: u32, account: u8) -> Outcome
+// Puts an account on the pixel z of the list, if the list that this makes has a slot for each of its tiles. `levels` is the size of the largest
+// block that ends with z.
+pub fn put(
+    slots: &mut [u32],
+    front: usize,
+    back: usize,
+    z: u32,
+    levels: u32,
+    account: u8,
+) -> Outcome
     requires { ⌜ Fits (now slots) front back ⌝ }
     requires { ⌜ (z < 4 ^ highestOrder) × (account ≤ highestAccount) ⌝ }
+    requires { ⌜ Levels z levels ⌝ }
     ensures { λ r. ⌜ Placed (now (slots .entry)) (now (slots .exit)) front back z account r ⌝ }
 {
     if account == 0 {
@@ -113,7 +125,7 @@ pub fn put(slots: &mut [u32], front: usize, back: usize, z: u32, account: u8) ->
     }
     let g = seek(slots, front, back, z);
     let back = g.back;
-    let p = push(slots, g.front, back, z, account);
+    let p = push(slots, g.front, back, z, levels, account);
     Outcome {
         full: p.full,
         front: p.front,

@@ -10,14 +10,6 @@ pub struct Top {
     pub size: u32,
 }
 
-// The size of the largest block that ends with the pixel z: half the trailing zeros of the number behind it.
-fn levels(z: u32) -> u32
-    requires { ⌜ z < 4 ^ highestOrder ⌝ }
-    ensures { λ r. ⌜ Levels z r ⌝ }
-{
-    u32::trailing_zeros(z + 1) / 2
-}
-
 // Whether the three words before `top` are the siblings of the tile of a size and an account that ends at `end`.
 fn siblings(slots: &[u32], top: usize, end: u32, size: u32, account: u8) -> bool
     requires { ⌜ Room (now slots) top end size account ⌝ }
@@ -33,16 +25,16 @@ fn siblings(slots: &[u32], top: usize, end: u32, size: u32, account: u8) -> bool
     slots[top - 3] == tile::pack(end - 4 * area, size, account)
 }
 
-// How far the pixel z of an account merges with the words before `front`.
-pub fn merge(slots: &[u32], front: usize, z: u32, account: u8) -> Top
+// How far the pixel z of an account merges with the words before `front`, where the largest block that ends with z has the size `levels`.
+pub fn merge(slots: &[u32], front: usize, z: u32, levels: u32, account: u8) -> Top
     requires { ⌜ front ≤ length (now slots) ⌝ }
     requires { ⌜ (z < 4 ^ highestOrder) × (account ≤ highestAccount) ⌝ }
+    requires { ⌜ Levels z levels ⌝ }
     ensures { λ r. ⌜ Merged (now (slots .entry)) front z account r ⌝ }
 {
-    let most = levels(z);
     let mut size: u32 = 0;
     let mut at = front;
-    while size < most {
+    while size < levels {
         if at < 3 {
             return Top { at, size };
         }

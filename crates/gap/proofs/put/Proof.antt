@@ -1,6 +1,5 @@
 -- Nobody's pixel changes nothing; another is pushed where the gap lies.
 use Rattle.gap.proofs.Pixel.{placed-nobody, placed-pushed}
-use Prim.Native.Nat.{_-_}
 use borrow.Author.Needs.{needs}
 use Rattle.gap.proofs.put.Statement.{statement}
 use Rattle.gap.proofs.put.Tie as tie

@@ -1,6 +1,5 @@
 -- Back first, then to the front: the gap lies at z from both sides.
 use mathlib.Core.Path.{_∙_}
-use Prim.Native.Nat.{_-_}
 use borrow.Author.Needs.{needs}
 use Rattle.gap.proofs.seek.Statement.{statement}
 use Rattle.gap.proofs.seek.Tie as tie

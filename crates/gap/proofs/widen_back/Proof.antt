@@ -3,7 +3,6 @@ use Rattle.gap.proofs.Parts.{back-step}
 use Rattle.gap.specs.Gap.{held, Fits}
 use lib.ListN.{length-set}
 use mathlib.Core.Path.{_≡_, _∙_}
-use Prim.Native.Nat.{_-_}
 use native.Mathlib.Omega.{arith}
 use lib.ListN.{length}
 use borrow.Author.Needs.{needs}
