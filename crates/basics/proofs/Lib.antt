@@ -2,3 +2,4 @@
 pub mod Tests
 pub mod ChoiceLaws
 pub mod Computed
+pub mod MapLaws

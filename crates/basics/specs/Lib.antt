@@ -1,2 +1,3 @@
--- What every definition may use: choices, counts and tables of numbers.
+-- What every definition may use: choices, counts and tables of numbers, tests with what they test.
 pub mod Choice
+pub mod Test

@@ -1,4 +1,3 @@
 -- Laws of claims.
-pub mod MapLaws
 pub mod Whole
 pub mod Refusals

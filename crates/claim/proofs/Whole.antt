@@ -20,7 +20,8 @@ use Rattle.tile.proofs.SlotsLaws.{words-tiles, length-tilesIn}
 use Rattle.quadtree.specs.Raster.{accountAt}
 use Rattle.quadtree.specs.Quadtree.{blocks, quadtree}
 use Rattle.quadtree.proofs.Alignment.{area-mono, area-pos}
-use Rattle.splicing.proofs.Split.{pieces, split-pieces}
+use Rattle.splicing.specs.Split.{pieces}
+use Rattle.splicing.proofs.Split.{split-pieces}
 use Rattle.bed.specs.Bed.{claimed}
 use Rattle.plan.specs.declared.Planned.{Planned}
 use Rattle.plan.specs.Plan.{Claimable, Plans, inner}
@@ -28,7 +29,7 @@ use Rattle.plan.proofs.Counts.{changes-pieces, changes-tiles}
 use Rattle.stores.specs.Stores.{Drawn, Opened}
 use Rattle.claim.specs.declared.Claimed.{Claimed}
 use Rattle.claim.specs.Claim.{claimOf}
-use Rattle.claim.proofs.MapLaws.{take-map, drop-map}
+use Rattle.basics.proofs.MapLaws.{take-map, drop-map}
 use Rattle.claim.proofs.Refusals.{claimOf-refused, claimOf-done, refusal-claimable}
 
 pub record Known (n t : ℕ) (s : List ℕ) (c k a : ℕ) (p : Planned) : Type 0 where

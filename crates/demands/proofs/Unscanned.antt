@@ -8,7 +8,7 @@ use mathlib.Core.Logic.{inl, inr}
 use Prim.Native.Nat.{ℕ, suc, _^_, _≤_, _<_}
 use native.Mathlib.Decide.{decLe}
 use native.Mathlib.Omega.{arith}
-use Rattle.basics.proofs.Tests.{Test, holds, fails, test-leb, test-and, test-not}
+use Rattle.basics.proofs.Tests.{Test, holds, fails, test-leb, test-and, test-not, test-alike}
 use Rattle.basics.proofs.ChoiceLaws.{Some, test-some}
 use Rattle.tile.specs.Tile.{Tile}
 use Rattle.quadtree.specs.Raster.{_∈_}
@@ -20,13 +20,6 @@ use Rattle.bed.specs.declared.Kind.{Kind}
 use Rattle.bed.specs.Places.{placeOf, scanned, scanOf}
 use Rattle.bed.specs.Bed.{hasUnscanned}
 use Rattle.scan.specs.Feed.{coversUnscanned}
-
--- two tests of equivalent facts end alike
-test-alike : {P Q : Type 0} {a b : Bool} → Test P a → Test Q b → (P → Q) → (Q → P) → a ≡ b
-test-alike (holds p) (holds q) f g = refl
-test-alike (holds p) (fails q) f g = absurd (q (f p))
-test-alike (fails p) (holds q) f g = absurd (p (g q))
-test-alike (fails p) (fails q) f g = refl
 
 abbrev Unscanned : Kind → ℕ → ℕ → ℕ → Type 0
 Unscanned k n s z = placeOf k n z < s → ⊥

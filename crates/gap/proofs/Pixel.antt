@@ -21,7 +21,8 @@ use Rattle.quadtree.proofs.Tiling.{Tiling, tiling-le, tiling-cong, tiling-cut, 
 use Rattle.quadtree.proofs.Shown.{paint-in, paint-out}
 use Rattle.quadtree.proofs.Siblings.{NoFour, no-four-left, no-four-right}
 use Rattle.quadtree.proofs.ValidLaws.{quadtree-tiling, quadtree-no-four, quadtree-cong}
-use Rattle.quadtree.proofs.Merge.{tileRun-front, Between, Apart, between-quadtree}
+use Rattle.quadtree.specs.Tiling.{Between, Apart}
+use Rattle.quadtree.proofs.Merge.{tileRun-front, between-quadtree}
 use Rattle.merging.specs.Merging.{tiles, upTo, Merged}
 use Rattle.merging.specs.declared.Top.{Top}
 use Rattle.gap.specs.Gap.{held, Fits, Awaits, dotted, PlacedOn, Placed, Pushed, Low, High, Moved}

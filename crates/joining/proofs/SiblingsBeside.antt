@@ -10,12 +10,11 @@ use Prim.Native.Nat.{ℕ, _+_, _-_, _*_, _/_, _%_, _^_, _≤_, _<_}
 use native.Mathlib.Omega.{arith}
 use native.Mathlib.Nat.{mul-le-mul-right}
 use lib.ListN.{take, length, drop, length-map}
-use Rattle.basics.proofs.Tests.{Test, fails, test-map}
+use Rattle.basics.proofs.Tests.{Test, fails, test-map, told-true, told-false}
 use Rattle.tile.specs.Tile.{tileOf, highestOrder}
 use Rattle.quadtree.proofs.Alignment.{area-mono}
-use Rattle.quadtree.proofs.Merge.{tileRun}
+use Rattle.quadtree.specs.Tiling.{tileRun}
 use Rattle.splicing.proofs.Place.{place}
-use Rattle.runs.proofs.Told.{told-true, told-false}
 use Rattle.joining.specs.Standing.{Block, Beside}
 
 pub record Rooms (c k side : ℕ) : Type 0 where

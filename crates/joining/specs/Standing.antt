@@ -10,7 +10,7 @@ use Prim.Native.Nat.{ℕ, _+_, _-_, _*_, _/_, _%_, _^_, _≤_}
 use lib.ListN.{length, take, drop}
 use Rattle.tile.specs.Tile.{Tile, tile, highestOrder}
 use Rattle.quadtree.specs.Raster.{Aligned}
-use Rattle.quadtree.proofs.Merge.{tileRun, Between, Apart}
+use Rattle.quadtree.specs.Tiling.{tileRun, Between, Apart}
 
 pub record Block (c k : ℕ) : Type 0 where
   pub size : k ≤ highestOrder

@@ -2,7 +2,7 @@
 ghost use mathlib.Core.List.{map};
 ghost use Prim.Native.Nat.{_≤_};
 ghost use lib.ListN.{length};
-ghost use Rattle.basics.proofs.Tests.{Test};
+ghost use Rattle.basics.specs.Test.{Test};
 ghost use Rattle.tile.specs.Tile.{tileOf, highestOrder};
 ghost use Rattle.quadtree.specs.Raster.{accountAt};
 ghost use Rattle.bed.specs.Bed.{claimed};

@@ -1,13 +1,12 @@
 -- The exports' answers, from those of the calls.
 --     kind-rows, kind-morton       the number of a kind
 --     fresh-export, feed-export    an answer with the record's four numbers in place of the record
-use mathlib.Core.Path.{_≡_, refl, ap, _∙_}
+use mathlib.Core.Path.{_≡_, ap, _∙_}
 use mathlib.Core.List.{List}
 use Prim.Native.Nat.{ℕ}
 use Rattle.refusal.specs.Checks.{After}
 use Rattle.bed.specs.declared.Kind.{Kind}
 use Rattle.bed.specs.declared.Kind.the-variants.{Rows, Morton}
-use Rattle.bed.specs.declared.Scan.{Scan}
 use Rattle.bed.specs.Places.{scanOf}
 use Rattle.scan.specs.declared.Fresh.{Fresh}
 use Rattle.scan.specs.declared.Fed.{Fed}

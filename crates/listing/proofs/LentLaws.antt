@@ -2,7 +2,7 @@
 --     listedIn-few       too few bytes are left as they are
 --     listedIn-fits      enough bytes have the listing in front
 --     listOf-in          the offered call is the listing in the bytes lent
-use mathlib.Core.Path.{_≡_, refl, ap, sym, _∙_}
+use mathlib.Core.Path.{_≡_, refl, sym, _∙_}
 use mathlib.Core.List.{List, _++_}
 use Prim.Native.Nat.{ℕ, _≤_, _<_}
 use lib.Dec.{leb}
@@ -11,7 +11,7 @@ use lib.ListN.{length, drop}
 use Rattle.basics.proofs.Tests.{test-leb}
 use Rattle.refusal.specs.Refusal.{accepted, bytesTooFew}
 use Rattle.refusal.specs.Checks.{After, must, unless}
-use Rattle.refusal.proofs.CheckLaws.{must-on, must-off, unless-on, unless-off}
+use Rattle.refusal.proofs.CheckLaws.{must-on, must-off, unless-on}
 use Rattle.text.specs.Written.{Written}
 use Rattle.listing.specs.declared.Listed.{Listed}
 use Rattle.listing.specs.Listing.{listing, listOf}

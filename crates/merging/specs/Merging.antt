@@ -14,7 +14,7 @@ use Prim.Native.Nat.{ℕ, suc, _+_, _-_, _*_, _^_, _≤_}
 use lib.ListN.{length, take}
 use Rattle.tile.specs.Tile.{Tile, tile, tileOf, highestOrder, highestAccount}
 use Rattle.quadtree.specs.Raster.{Aligned}
-use Rattle.quadtree.proofs.Merge.{tileRun, Between}
+use Rattle.quadtree.specs.Tiling.{tileRun, Between}
 use Rattle.merging.specs.declared.Top.{Top}
 
 abbrev pub tiles : List ℕ → List Tile

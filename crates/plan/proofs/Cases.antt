@@ -24,7 +24,8 @@ use Rattle.quadtree.proofs.ValidLaws.{valid-quadtree, valid-no-four, quadtree-c
 use Rattle.quadtree.proofs.Merge.{between-quadtree}
 use Rattle.splicing.proofs.Index.{At}
 use Rattle.splicing.proofs.Splice.{Alone, quadtree-splice}
-use Rattle.splicing.proofs.Split.{Split, split-alone, split-self, single-some}
+use Rattle.splicing.specs.Split.{Split}
+use Rattle.splicing.proofs.Split.{split-alone, split-self, single-some}
 use Rattle.bed.specs.Bed.{claimed}
 use Rattle.joining.specs.Standing.{Stands, Merges}
 use Rattle.plan.specs.Plan.{Claimable, Changes}

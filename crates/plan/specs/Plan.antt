@@ -13,7 +13,7 @@ use Rattle.tile.specs.Tile.{Tile, stop, tileOf, highestOrder, highestAccount}
 use Rattle.quadtree.specs.Raster.{Aligned, accountAt}
 use Rattle.quadtree.specs.Quadtree.{blocks, quadtree}
 use Rattle.quadtree.specs.Valid.{Valid}
-use Rattle.splicing.proofs.Split.{Split}
+use Rattle.splicing.specs.Split.{Split}
 use Rattle.bed.specs.Bed.{claimed}
 use Rattle.plan.specs.declared.Change.{Change}
 use Rattle.plan.specs.declared.Planned.{Planned}

@@ -3,7 +3,7 @@ ghost use mathlib.Core.Path.{_≡_};
 ghost use mathlib.Core.List.{map};
 ghost use Prim.Native.Nat.{_+_, _*_, _≤_};
 ghost use lib.ListN.{length};
-ghost use Rattle.basics.proofs.Tests.{Test};
+ghost use Rattle.basics.specs.Test.{Test};
 ghost use Rattle.tile.specs.Tile.{tileOf, highestOrder};
 ghost use Rattle.tile.specs.Slots.{tilesIn};
 ghost use Rattle.plan.specs.Plan.{Claimable, FirstPast, Covered, Changes, inner, Plans};

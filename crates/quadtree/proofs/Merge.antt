@@ -1,15 +1,12 @@
 -- Merging: a tile put into a list goes together with its siblings there, on both sides of it and over as many levels as fit.
---     tileRun k a m c       m tiles of size k and account a, one behind the other from the corner c on
---     Between g n a b t     the tiles of a, t and the tiles of b, in this order, tile the raster g of order n
 --     between-merge         where t's three siblings stand next to it, the four can be dropped for their parent
---     Apart a b t           t's three siblings do not all stand next to it
---     between-quadtree      then a, t and b are the linear quadtree of g
+--     between-quadtree      where they do not all stand there (`Apart`), a, t and b are the linear quadtree of g
 --     Places a t b ts       ts is what merging t while possible, and then inserting it between a and b, gives
 --     places-quadtree       and that is the linear quadtree of g
 --     places-painted        of a valid list and a tile that fits into it, the linear quadtree of what it showed with the tile painted on it
 use mathlib.Core.Path.{_≡_, refl, ap}
 use mathlib.Core.List.{List, [], _∷_, _++_, append-nil}
-use Prim.Native.Nat.{ℕ, zero, suc, _+_, _-_, _*_, _^_, _≤_}
+use Prim.Native.Nat.{ℕ, zero, suc, _+_, _*_, _^_}
 use native.Mathlib.Omega.{arith}
 use lib.ListN.{length}
 use Rattle.tile.specs.Tile.{Tile, tile, stop}
@@ -17,15 +14,12 @@ use Rattle.quadtree.specs.Raster.{Aligned, Covers, Uniform, accountAt, p
 use Rattle.quadtree.specs.Quadtree.{quadtree}
 use Rattle.quadtree.specs.Valid.{Valid}
 use Rattle.quadtree.proofs.Alignment.{aligned-room}
-use Rattle.quadtree.proofs.Tiling.{On, Tiling, next, uniform-join, tiling-split, tiling-insert, tiling-cut, tiling-cong}
+use Rattle.quadtree.proofs.Tiling.{Tiling, next, uniform-join, tiling-split, tiling-insert, tiling-cut, tiling-cong}
 use Rattle.quadtree.proofs.Shown.{paint-in, paint-out}
 use Rattle.quadtree.proofs.Siblings.{Siblings, Four, NoFour, no-four-left, no-four-right}
 use Rattle.quadtree.proofs.ValidLaws.{tiling-quadtree, valid-tiling, valid-no-four}
 use Rattle.quadtree.proofs.Change.{Fits}
-
-unfoldable pub tileRun : ℕ → ℕ → ℕ → ℕ → List Tile
-tileRun k a zero c = []
-tileRun k a (suc m) c = tile c k a ∷ tileRun k a m (c + 4 ^ k)
+use Rattle.quadtree.specs.Tiling.{tileRun, Between, Apart}
 
 pub tileRun-length : (k a m c : ℕ) → length (tileRun k a m c) ≡ m
 unfolding tileRun
@@ -45,11 +39,6 @@ tileRun-back {f} {lo} k a (suc m) c e h q t =
     let s = tiling-split h t in
     (s .0, tileRun-front {f = f} {hi = e} k a (suc m) c e [] q (rw append-nil (s .1)) .0)
 
-pub record Between (g : ℕ → ℕ) (n : ℕ) (a b : List Tile) (t : Tile) : Type 0 where
-  pub ahead : Tiling g (t .corner) 0 a
-  pub rest : Tiling g (4 ^ n) (stop t) b
-  pub on : On g t
-
 pub between-merge : {g : ℕ → ℕ} {n : ℕ} (h r : List Tile) (k a i j c p : ℕ) → i + j ≡ 3 → c ≡ p + i * 4 ^ k → Aligned (suc k) p →
     Between g n (h ++ tileRun k a i p) (tileRun k a j (c + 4 ^ k) ++ r) (tile c k a) → Between g n h r (tile p (suc k) a)
 between-merge {g} {n} h r k a i j c p ij e m t = go (tileRun-back k a i p c h e (t .ahead)) (tileRun-front k a j (c + 4 ^ k) (p + 4 ^ suc k) r q (t .rest))
@@ -59,9 +48,6 @@ between-merge {g} {n} h r k a i j c p ij e m t = go (tileRun-back k a i p c h e 
 
     go : Tiling g p 0 h × Uniform g a p c → Uniform g a (c + 4 ^ k) (p + 4 ^ suc k) × Tiling g (4 ^ n) (p + 4 ^ suc k) r → Between g n h r (tile p (suc k) a)
     go x y = record { ahead = x .0; rest = y .1; on = record { aligned = m; owned = t .on .owned; uniform = uniform-join (x .1) (uniform-join (t .on .uniform) (y .0)) } }
-
-abbrev pub Apart : List Tile → List Tile → Tile → Type 0
-Apart a b t = (j p : ℕ) (h r : List Tile) → j ≤ 3 → Aligned (suc (t .size)) p → t .corner ≡ p + j * 4 ^ t .size → a ≡ h ++ tileRun (t .size) (t .account) j p → b ≡ tileRun (t .size) (t .account) (3 - j) (stop t) ++ r → ⊥
 
 apart-tail : (x t : Tile) (a b : List Tile) → Apart (x ∷ a) b t → Apart a b t
 apart-tail x t a b g j p h r l m e ea eb = g j p (x ∷ h) r l m e (ap (λ (y : List Tile). x ∷ y) ea) eb

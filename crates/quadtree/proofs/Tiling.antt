@@ -1,7 +1,4 @@
--- Tilings: the relation that carries a raster through every proof.
---     On f t                     t is aligned, somebody's, and the raster f has its account on all of it
---     Next f lo t                t is the next tile at or behind lo: what lies between is nobody's
---     Tiling f hi lo ts          ts tiles the raster f from lo up to hi, by rising corner, with no overlap
+-- Laws of tilings, the relation that carries a raster through every proof.
 --     Placed f hi lo t           where a tile of such a list lies
 --     tiling-blank, -append, -split, -extend   tilings put together and taken apart
 --     tiling-cut                 a tiling cut where no tile lies
@@ -12,22 +9,9 @@ use Prim.Native.Nat.{ℕ, _≤_, _<_}
 use native.Mathlib.Omega.{arith}
 use native.Mathlib.Nat.{le-refl}
 use Rattle.tile.specs.Tile.{Tile, stop}
-use Rattle.quadtree.specs.Raster.{Aligned, Uniform, _∈_}
+use Rattle.quadtree.specs.Raster.{Uniform, _∈_}
 use Rattle.quadtree.proofs.Alignment.{cmp, below, same, above, area-pos}
-
-pub record On (f : ℕ → ℕ) (t : Tile) : Type 0 where
-  pub aligned : Aligned (t .size) (t .corner)
-  pub owned : 0 < t .account
-  pub uniform : Uniform f (t .account) (t .corner) (stop t)
-
-pub record Next (f : ℕ → ℕ) (lo : ℕ) (t : Tile) : Type 0 where
-  pub after : lo ≤ t .corner
-  pub blank : Uniform f 0 lo (t .corner)
-  pub on : On f t
-
-pub data Tiling (f : ℕ → ℕ) (hi : ℕ) : ℕ → List Tile → Type 0 where
-  none : {lo : ℕ} → lo ≤ hi → Uniform f 0 lo hi → Tiling f hi lo []
-  next : {lo : ℕ} {t : Tile} {ts : List Tile} → Next f lo t → Tiling f hi (stop t) ts → Tiling f hi lo (t ∷ ts)
+pub use Rattle.quadtree.specs.Tiling.{On, Next, Tiling, none, next}
 
 pub uniform-join : {f : ℕ → ℕ} {a lo mid hi : ℕ} → Uniform f a lo mid → Uniform f a mid hi → Uniform f a lo hi
 uniform-join {f} {a} {lo} {mid} {hi} p q z l h = elim (cmp z mid) [ below b ↦ p z l b | same e ↦ q z (omega arith) h | above b ↦ q z (omega arith) h ]

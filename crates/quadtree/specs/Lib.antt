@@ -2,3 +2,4 @@
 pub mod Raster
 pub mod Quadtree
 pub mod Valid
+pub mod Tiling

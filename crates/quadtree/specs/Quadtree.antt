@@ -5,7 +5,7 @@
 --     blocks f k c            the linear quadtree as a program, of the quadrant of size k at the corner c
 --     quadtree n f            the same of the bed of order n
 -- That `quadtree n f` is the `LinearQuadtree` is the law `quadtree-linear`.
-use mathlib.Core.Bool.{Bool, true, false}
+use mathlib.Core.Bool.{true, false}
 use mathlib.Core.List.{List, [], _∷_, _++_}
 use mathlib.Core.Logic.{_↔_}
 use Prim.Native.Nat.{ℕ, zero, suc, _+_, _*_, _^_, _≤_, _<_}

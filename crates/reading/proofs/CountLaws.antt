@@ -22,7 +22,7 @@ use Rattle.tile.proofs.SlotsLaws.{length-tilesIn}
 use Rattle.quadtree.specs.Raster.{_∈_}
 use Rattle.quadtree.specs.Quadtree.{Rising, end, link}
 use Rattle.reading.specs.Part.{isAhead, isInside, counted}
-use Rattle.reading.proofs.SlotTiles.{tilesIn-at}
+use Rattle.tile.proofs.SlotTiles.{tilesIn-at}
 
 pub test-ahead : (c : ℕ) (u : Tile) → Test (u .corner < c) (isAhead c u)
 test-ahead c u = test-leb (suc (u .corner)) c

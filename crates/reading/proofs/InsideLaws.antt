@@ -34,7 +34,7 @@ use Rattle.bed.specs.Bed.{blockIn}
 use Rattle.reading.specs.declared.Part.{Part}
 use Rattle.reading.specs.Part.{isAhead, isInside, counted, partCheck, partOf, sliceOf}
 use Rattle.reading.proofs.CountLaws.{test-ahead, test-inside, counted-yes, counted-le, counted-none, rising-from, ahead-none, slot-past, slot-upto}
-use Rattle.reading.proofs.SlotTiles.{tilesIn-at}
+use Rattle.tile.proofs.SlotTiles.{tilesIn-at}
 use Rattle.reading.proofs.LookupLaws.{chain-rising}
 
 module _ (c k : ℕ) where

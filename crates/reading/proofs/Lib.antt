@@ -1,5 +1,4 @@
 -- Laws of the searches.
-pub mod SlotTiles
 pub mod CountLaws
 pub mod LookupLaws
 pub mod InsideLaws

@@ -39,7 +39,7 @@ use Rattle.listcheck.proofs.Accepts.{listCheck-valid}
 use Rattle.reading.specs.Lookup.{pointIn, lookupCheck, lookupOf}
 use Rattle.reading.specs.Part.{isAhead, counted}
 use Rattle.reading.proofs.CountLaws.{test-ahead, counted-yes, counted-le, ahead-none}
-use Rattle.reading.proofs.SlotTiles.{tilesIn-at}
+use Rattle.tile.proofs.SlotTiles.{tilesIn-at}
 
 rising-down : {lo hi : ℕ} {us : List Tile} → lo ≤ hi → Rising hi us → Rising lo us
 rising-down h tree.end = tree.end

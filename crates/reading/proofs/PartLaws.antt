@@ -23,7 +23,7 @@ use Rattle.quadtree.specs.Valid.{Chain, end, link}
 use Rattle.quadtree.proofs.Alignment.{area-pos, area-mono}
 use Rattle.reading.specs.Part.{isAhead, isInside, counted, partCheck, partOf, sliceOf}
 use Rattle.reading.proofs.CountLaws.{test-ahead, test-inside, counted-yes, counted-no, counted-none, rising-from, ahead-none}
-use Rattle.reading.proofs.SlotTiles.{tilesIn-part, tilesIn-front}
+use Rattle.tile.proofs.SlotTiles.{tilesIn-part, tilesIn-front}
 use Rattle.reading.proofs.LookupLaws.{chain-rising}
 use Rattle.reading.proofs.InsideLaws.{Block, partCheck-passed, partOf-accepted, inside-le, first-at, chain-apart, to-le}
 

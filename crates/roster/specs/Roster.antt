@@ -5,7 +5,7 @@
 --     listed a es          how many entries are the account's
 --     rosterGood ts es     each entry has an account of the tiles with its pixels, and is its only one; each tile's account has an entry.
 --                          The order is open
-use mathlib.Core.Bool.{Bool, true, false, _&&_}
+use mathlib.Core.Bool.{Bool, true, _&&_}
 use mathlib.Core.List.{List, [], _∷_}
 use Prim.Native.Nat.{ℕ, zero, suc, _+_, _^_}
 use lib.Dec.{ltb, eqb}

@@ -1,3 +1,2 @@
 -- Laws of runs in slots.
-pub mod Told
 pub mod RunSteps

@@ -14,7 +14,7 @@ use lib.Seq.{drop-cons, take-suc-set, drop-set-lt}
 use Rattle.basics.proofs.Tests.{Test, holds, fails}
 use Rattle.tile.specs.Tile.{tile, tileOf, wordOf}
 use Rattle.quadtree.proofs.Alignment.{area-pos}
-use Rattle.quadtree.proofs.Merge.{tileRun}
+use Rattle.quadtree.specs.Tiling.{tileRun}
 
 pub record Along (k m c j x : ℕ) : Type 0 where
   pub count : j ≤ m

@@ -3,9 +3,9 @@ ghost use mathlib.Core.Path.{_≡_};
 ghost use mathlib.Core.List.{_++_, map};
 ghost use Prim.Native.Nat.{_+_, _*_, _^_, _<_, _≤_};
 ghost use lib.ListN.{length, take, drop};
-ghost use Rattle.basics.proofs.Tests.{Test};
+ghost use Rattle.basics.specs.Test.{Test};
 ghost use Rattle.tile.specs.Tile.{tileOf, wordOf, highestOrder, highestAccount};
-ghost use Rattle.quadtree.proofs.Merge.{tileRun};
+ghost use Rattle.quadtree.specs.Tiling.{tileRun};
 
 // Are the `count` words from `at` on the run of a size and an account from the corner on?
 pub fn is_run(list: &[u32], at: usize, count: usize, corner: u32, size: u32, account: u8) -> bool

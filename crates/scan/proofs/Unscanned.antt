@@ -17,7 +17,7 @@ use native.Mathlib.Omega.{arith}
 use lib.Dec.{leb}
 use lib.ListN.{length, take, drop, getD, length-map, List·getD-map, drop-of-length-le}
 use lib.Seq.{drop-cons, getD-take, length-take-le}
-use Rattle.basics.proofs.Tests.{Test, holds, fails, test-leb, test-not}
+use Rattle.basics.proofs.Tests.{Test, test-leb, test-not, test-alike, told-false}
 use Rattle.basics.proofs.ChoiceLaws.{Some, test-some}
 use Rattle.morton.specs.Morton.{column, row, sideBits}
 use Rattle.morton.proofs.MortonLaws.{column-wide, row-wide}
@@ -68,19 +68,12 @@ place-morton k n z e = rw e
 pub quadrant-stop : {n : ℕ} {t : Tile} → Quadrant n t → stop t ≤ 4 ^ n
 quadrant-stop q = aligned-room (q .fits) (q .aligned) (q .inside)
 
--- two tests of the same fact end alike
-same-test : {P Q : Type 0} {b d : Bool} → Test P b → Test Q d → (P → Q) → (Q → P) → b ≡ d
-same-test (holds p) (holds q) f g = refl
-same-test (holds p) (fails q) f g = absurd (q (f p))
-same-test (fails p) (holds q) f g = absurd (p (g q))
-same-test (fails p) (fails q) f g = refl
-
 test-unscanned : (k : Kind) (n s : ℕ) (t : Tile) → Test (Some (λ z. placeOf k n z < s → ⊥) (t .corner) (4 ^ t .size)) (unscannedIn k n s t)
 unfolding scanned
 test-unscanned k n s t = test-some (λ z. test-not (test-leb (suc (placeOf k n z)) s)) (t .corner) (4 ^ t .size)
 
 pub unscanned-last : (k : Kind) (n s : ℕ) (t : Tile) → Quadrant n t → leb s (placeOf k n (stop t - 1)) ≡ unscannedIn k n s t
-unscanned-last k n s t q = same-test (test-leb s (placeOf k n (stop t - 1))) (test-unscanned k n s t)
+unscanned-last k n s t q = test-alike (test-leb s (placeOf k n (stop t - 1))) (test-unscanned k n s t)
     (λ h. (stop t - 1, omega (arith, area-pos (t .size)), omega (arith, area-pos (t .size)), λ l. omega arith))
     (λ w. elim (decLt (w .0 + 1) (stop t)) [
       | yes l ↦ elim (decLt (placeOf k n (w .0)) s) [ yes g ↦ absurd (w .3 g) | no g ↦ omega (arith, placeOf-last k n (w .0) (q .aligned) (w .1) l (quadrant-stop q)) ]
@@ -129,13 +122,9 @@ neither : (a b : Bool) → (a || b) ≡ false → (a ≡ false) × (b ≡ false)
 neither true b e = absurd (let z : _≡_ {A = ℕ} 0 1 = cc in omega arith)
 neither false b e = (refl, e)
 
-untrue : {P : Type 0} {b : Bool} → Test P b → b ≡ false → P → ⊥
-untrue (holds p) e q = let z : _≡_ {A = ℕ} 0 1 = cc in omega arith
-untrue (fails p) e q = p q
-
 pub covers-blank : (c : Scan) (ts : List Tile) → coversUnscanned c ts ≡ false → (z : ℕ) → c .pixels ≤ placeOf (c .kind) (c .order) z → accountAt ts z ≡ 0
 unfolding coversUnscanned accountAt
 covers-blank c [] e z g = refl
 covers-blank c (t ∷ ts) e z g =
     let q = neither (unscannedIn (c .kind) (c .order) (c .pixels) t) (coversUnscanned c ts) e in
-    accountAt-rest t ts z (λ h. untrue (test-unscanned (c .kind) (c .order) (c .pixels) t) (q .0) (z, h .0, h .1, λ l. omega arith)) ∙ covers-blank c ts (q .1) z g
+    accountAt-rest t ts z (λ h. told-false (test-unscanned (c .kind) (c .order) (c .pixels) t) (q .0) (z, h .0, h .1, λ l. omega arith)) ∙ covers-blank c ts (q .1) z g

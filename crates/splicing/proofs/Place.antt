@@ -15,7 +15,8 @@ use lib.Seq.{take-add, drop-drop, drop-at, take-at, length-take-le}
 use Rattle.tile.specs.Tile.{Tile, tile}
 use Rattle.quadtree.specs.Raster.{Aligned}
 use Rattle.quadtree.proofs.Alignment.{aligned-gap, area-pos, cmp, below, same, above}
-use Rattle.quadtree.proofs.Merge.{tileRun, tileRun-length, Between, between-merge, Apart}
+use Rattle.quadtree.specs.Tiling.{tileRun, Between, Apart}
+use Rattle.quadtree.proofs.Merge.{tileRun-length, between-merge}
 
 pub record Place (k c i p : ℕ) : Type 0 where
   pub four : i ≤ 3

@@ -1,45 +1,34 @@
--- A block of one account inside a block of another, taken apart level by level.
---     Split g k c a v s d     g has the account a on the block of size k at c, and v on the rest of the block of size s at d around it
+-- Laws of a block of one account inside a block of another (`Split`), taken apart level by level.
 --     Holder c s d i e        quadrant i, at e, of the block of size s + 1 at d holds the number c; `holder` computes it
 --     Child k c s d i e       it holds the block of size k at c; `child` computes it
 --     split-self              a uniform block is split at its own size
 --     split-mixed, -alone     a split block is not uniform, so that no larger uniform block holds it
 --     split-down, -step       one level down: the quadrant that holds the inner block, between the owner's other three
 --     split-end               no level is left
---     pieces k c a v l d      the tiles of a split block, l levels above the inner one
---     split-pieces            its blocks are those
+--     split-pieces            the blocks of a split block are its `pieces`
 --     split-length            and are three for each level, besides the inner one
 use mathlib.Core.Path.{_≡_, refl, ap, sym, _∙_}
-use mathlib.Core.List.{List, [], _∷_, _++_, append-nil}
+use mathlib.Core.List.{[], _∷_, _++_, append-nil}
 use mathlib.Core.Logic.{_⊎_, inl, inr}
 use Prim.Native.Nat.{ℕ, zero, suc, _+_, _-_, _*_, _/_, _%_, _^_, _≤_, _<_}
 use native.Mathlib.Omega.{arith}
 use native.Mathlib.Decide.{decLt, decLe}
 use native.Mathlib.Nat.{div-add-mod', mod-lt, le-refl, mul-le-mul-right}
 use lib.ListN.{length, length-append}
-use Rattle.tile.specs.Tile.{Tile, tile}
+use Rattle.tile.specs.Tile.{tile}
 use Rattle.quadtree.specs.Raster.{Aligned, Uniform}
 use Rattle.quadtree.specs.Quadtree.{single, four, blocks}
 use Rattle.quadtree.proofs.Alignment.{aligned-down, aligned-next, aligned-gap, aligned-quarter, area-pos, area-mono}
 use Rattle.quadtree.proofs.Blocks.{blocks-uniform, blocks-mixed}
-use Rattle.quadtree.proofs.Merge.{tileRun, tileRun-length}
+use Rattle.quadtree.specs.Tiling.{tileRun}
+use Rattle.quadtree.proofs.Merge.{tileRun-length}
 use Rattle.splicing.proofs.Splice.{Alone}
+use Rattle.splicing.specs.Split.{Split, pieces}
 
 pub single-some : (c k v : ℕ) → 0 < v → single c k v ≡ tile c k v ∷ []
 unfolding single
 single-some c k zero h = absurd (omega arith)
 single-some c k (suc v) h = refl
-
-pub record Split (g : ℕ → ℕ) (k c a v s d : ℕ) : Type 0 where
-  pub aligned : Aligned k c
-  pub outer : Aligned s d
-  pub sizes : k ≤ s
-  pub from : d ≤ c
-  pub upto : c + 4 ^ k ≤ d + 4 ^ s
-  pub inside : Uniform g a c (c + 4 ^ k)
-  pub outside : (z : ℕ) → d ≤ z → z < d + 4 ^ s → ((c ≤ z) × (z < c + 4 ^ k) → ⊥) → g z ≡ v
-  pub differ : k < s → a ≡ v → ⊥
-  pub owned : k < s → 0 < v
 
 pub record Child (k c s d i e : ℕ) : Type 0 where
   pub four : i ≤ 3
@@ -133,11 +122,6 @@ split-length {g} {k} {c} {a} {v} (suc l) (suc s) d e t =
     let x : ℕ = d + (c - d) / 4 ^ s * 4 ^ s in
     let ih = split-length l s x (omega arith) (split-down t h y) in
     rw (split-step t h y, length-append (tileRun s v ((c - d) / 4 ^ s) d), length-append (blocks g s x), tileRun-length, tileRun-length) (omega (arith, y .four, ih))
-
-unfoldable pub pieces : ℕ → ℕ → ℕ → ℕ → ℕ → ℕ → List Tile
-pieces k c a v zero d = single c k a
-pieces k c a v (suc l) d =
-    tileRun (k + l) v ((c - d) / 4 ^ (k + l)) d ++ (pieces k c a v l (d + (c - d) / 4 ^ (k + l) * 4 ^ (k + l)) ++ tileRun (k + l) v (3 - (c - d) / 4 ^ (k + l)) (d + (c - d) / 4 ^ (k + l) * 4 ^ (k + l) + 4 ^ (k + l)))
 
 pub split-pieces : {g : ℕ → ℕ} {k c a v : ℕ} (l s d : ℕ) → s ≡ k + l → Split g k c a v s d → blocks g s d ≡ pieces k c a v l d
 unfolding pieces

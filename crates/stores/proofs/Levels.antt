@@ -14,8 +14,10 @@ use lib.Seq.{set-split, take-at, drop-at, take-take, take-append-le, drop-drop, 
 use Rattle.tile.specs.Tile.{tile, wordOf, highestOrder}
 use Rattle.quadtree.specs.Quadtree.{single}
 use Rattle.quadtree.proofs.Alignment.{area-pos}
-use Rattle.quadtree.proofs.Merge.{tileRun, tileRun-length}
-use Rattle.splicing.proofs.Split.{holder, pieces, single-some}
+use Rattle.quadtree.specs.Tiling.{tileRun}
+use Rattle.quadtree.proofs.Merge.{tileRun-length}
+use Rattle.splicing.specs.Split.{pieces}
+use Rattle.splicing.proofs.Split.{holder, single-some}
 use Rattle.plan.specs.Plan.{inner}
 use Rattle.plan.proofs.Counts.{inner-none, inner-one}
 use Rattle.stores.specs.Stores.{Drawn}

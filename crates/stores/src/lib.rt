@@ -4,7 +4,7 @@ ghost use mathlib.Core.List.{_++_, map};
 ghost use Prim.Native.Nat.{_+_, _-_, _*_, _≤_};
 ghost use lib.ListN.{length, take, drop};
 ghost use Rattle.tile.specs.Tile.{wordOf};
-ghost use Rattle.splicing.proofs.Split.{pieces};
+ghost use Rattle.splicing.specs.Split.{pieces};
 ghost use Rattle.plan.specs.Plan.{inner};
 ghost use Rattle.stores.specs.Stores.{Drawn, Opened};
 

@@ -4,7 +4,6 @@
 --     written-one       a byte that fits is put
 --     written-then      bytes put behind bytes
 --     written-next      one more byte of a string
---     written-all       from the first place on: the bytes, then what was behind
 use mathlib.Core.Path.{_≡_, refl, ap, sym, _∙_}
 use mathlib.Core.List.{List, [], _∷_, _++_, append-assoc}
 use Prim.Native.Nat.{ℕ, _+_, _-_, _≤_, _<_}
@@ -43,6 +42,3 @@ module _ {xs ys : List ℕ} {at : ℕ} {old : List ℕ} {mid : ℕ} {half : List
 pub written-next : (bytes : List ℕ) (i : ℕ) {at : ℕ} {old : List ℕ} {mid : ℕ} {half : List ℕ} {end : ℕ} {new : List ℕ} → i < length bytes →
     Written (take i bytes) at old mid half → Written (getD bytes i 0 ∷ []) mid half end new → Written (take (i + 1) bytes) at old end new
 written-next bytes i h v w = rw (add-one i, take-suc bytes i 0 h) (written-then v w)
-
-pub written-all : {bytes old : List ℕ} {end : ℕ} {new : List ℕ} → Written bytes 0 old end new → end ≤ length old → new ≡ bytes ++ drop end old
-written-all w h = w .put h

@@ -2,3 +2,4 @@
 pub mod TileLaws
 pub mod SlotsLaws
 pub mod Bits
+pub mod SlotTiles

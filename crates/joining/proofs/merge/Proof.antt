@@ -5,7 +5,7 @@ use native.Mathlib.Omega.{arith}
 use lib.ListN.{length-map, length}
 use Rattle.tile.specs.Tile.{tileOf}
 use Rattle.quadtree.specs.Raster.{accountAt}
-use Rattle.runs.proofs.Told.{told-true, told-false}
+use Rattle.basics.proofs.Tests.{told-true, told-false}
 use Rattle.bed.specs.Bed.{claimed}
 use Rattle.joining.specs.Standing.{Stands}
 use Rattle.joining.proofs.Turns.{Turn, stands-turn, stands-block, stands-up, stands-merges}

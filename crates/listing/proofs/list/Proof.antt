@@ -4,7 +4,7 @@ use Rattle.bed.specs.declared.Kind.the-variants.{Rows}
 use Rattle.listing.specs.Listing.{listedSlots}
 use Rattle.listing.proofs.ScannedLaws.{fed-room, list-empty, list-large, list-scanned}
 use mathlib.Core.Path.{_∙_}
-use Prim.Native.Nat.{ℕ, _-_}
+use Prim.Native.Nat.{ℕ}
 use native.Mathlib.Omega.{arith}
 use lib.ListN.{getD, replicate}
 use borrow.Author.Needs.{needs}

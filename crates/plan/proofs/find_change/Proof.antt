@@ -4,7 +4,7 @@ use native.Mathlib.Omega.{arith}
 use borrow.Author.Needs.{needs}
 use Rattle.tile.specs.Tile.{highestOrder}
 use Rattle.quadtree.proofs.Alignment.{area-mono}
-use Rattle.runs.proofs.Told.{told-true, told-false}
+use Rattle.basics.proofs.Tests.{told-true, told-false}
 use Rattle.plan.proofs.Cases.{claimable-room, merges-changes}
 use Rattle.plan.proofs.Searches.{free-cleared, free-stands}
 use Rattle.plan.proofs.find_change.Statement.{statement}

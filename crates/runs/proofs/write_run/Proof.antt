@@ -6,7 +6,7 @@ use native.Mathlib.Omega.{arith}
 use lib.ListN.{length-set, length, take, drop}
 use borrow.Author.Needs.{needs}
 use Rattle.tile.specs.Tile.{wordOf}
-use Rattle.quadtree.proofs.Merge.{tileRun}
+use Rattle.quadtree.specs.Tiling.{tileRun}
 use Rattle.runs.proofs.RunSteps.{along-room, along-below, Writing, write-none, write-more, write-all}
 use Rattle.runs.proofs.write_run.Statement.{statement}
 use Rattle.runs.proofs.write_run.Tie as tie

@@ -2,7 +2,6 @@
 use Rattle.scan.proofs.Feeds.{feed-refused, feed-done}
 use Rattle.scan.proofs.Opening.{opening-opened}
 use mathlib.Core.Path.{_∙_, sym}
-use Prim.Native.Nat.{_-_}
 use borrow.Author.Needs.{needs}
 use Rattle.scan.proofs.feed.Statement.{statement}
 use Rattle.scan.proofs.feed.Tie as tie

@@ -2,7 +2,6 @@
 use Rattle.scan.specs.FreshScan.{freshOf}
 use Rattle.refusal.specs.Checks.{must, unless}
 use borrow.Author.Tests.{lt-leb, le-leb}
-use Prim.Native.Nat.{_-_}
 use borrow.Author.Needs.{needs}
 use Rattle.scan.proofs.fresh_scan.Statement.{statement}
 use Rattle.scan.proofs.fresh_scan.Tie as tie

@@ -2,7 +2,6 @@
 use Rattle.scan.proofs.Opening.{open-list, open-pixels, open-tiles, open-passed}
 use Rattle.listcheck.proofs.Accepts.{listCheck-valid}
 use mathlib.Core.Path.{_∙_, sym}
-use Prim.Native.Nat.{_-_}
 use native.Mathlib.Omega.{arith}
 use borrow.Author.Needs.{needs}
 use Rattle.scan.proofs.open_check.Statement.{statement}

@@ -1,6 +1,5 @@
 -- By kind: row and column of the pixel, or its number itself.
 use Rattle.scan.proofs.Unscanned.{place-rows, place-fits, place-morton}
-use Prim.Native.Nat.{_-_}
 use borrow.Author.Needs.{needs}
 use Rattle.scan.proofs.place.Statement.{statement}
 use Rattle.scan.proofs.place.Tie as tie

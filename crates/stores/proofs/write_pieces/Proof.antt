@@ -6,7 +6,7 @@ use native.Mathlib.Omega.{arith}
 use lib.ListN.{length-set, length, take, drop}
 use borrow.Author.Needs.{needs}
 use Rattle.tile.specs.Tile.{wordOf}
-use Rattle.splicing.proofs.Split.{pieces}
+use Rattle.splicing.specs.Split.{pieces}
 use Rattle.stores.proofs.Levels.{Turned, Putting, level, put-level, put-room, put-one, put-none}
 use Rattle.stores.proofs.write_pieces.Statement.{statement}
 use Rattle.stores.proofs.write_pieces.Tie as tie

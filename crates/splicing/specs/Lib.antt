@@ -1,0 +1,2 @@
+-- Blocks taken apart.
+pub mod Split
