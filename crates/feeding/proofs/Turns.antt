@@ -5,7 +5,7 @@
 use mathlib.Core.Path.{_≡_, _∙_, refl, ap, sym}
 use mathlib.Core.Bool.{Bool, true, false}
 use mathlib.Core.List.{List, [], _∷_}
-use Prim.Native.Nat.{ℕ, _+_, _^_, _<_}
+use Prim.Native.Nat.{ℕ, _+_, _-_, _^_, _<_}
 use native.Mathlib.Numerals.{add-one}
 use native.Mathlib.Decide.{decLt}
 use native.Mathlib.Omega.{arith}
@@ -14,17 +14,22 @@ use lib.ListN.{length, drop, getD}
 use lib.Seq.{drop-cons, drop-length}
 use Rattle.basics.specs.Choice.{if}
 use Rattle.refusal.specs.Refusal.{accepted, scanFull, accountTooLarge, slotsExceeded}
-use Rattle.tile.specs.Tile.{highestAccount}
+use Rattle.tile.specs.Tile.{tileOf, highestAccount}
 use Rattle.tile.specs.Slots.{tilesIn}
+use Rattle.tile.proofs.SlotTiles.{tilesIn-in}
 use Rattle.quadtree.specs.Raster.{accountAt}
 use Rattle.quadtree.specs.Quadtree.{quadtree}
-use Rattle.quadtree.proofs.ValidLaws.{valid-quadtree}
+use Rattle.quadtree.proofs.Alignment.{area-pos}
+use Rattle.quadtree.proofs.Tiling.{placed}
+use Rattle.quadtree.proofs.ValidLaws.{valid-quadtree, valid-tiling}
+use Rattle.bed.specs.declared.Kind.the-variants.{Morton}
 use Rattle.bed.specs.declared.Scan.{Scan}
+use Rattle.bed.specs.Places.{placeOf}
 use Rattle.bed.specs.Bed as bed
 use Rattle.merging.specs.Merging.{tiles}
-use Rattle.gap.specs.Gap.{held, Fits}
+use Rattle.gap.specs.Gap.{held, Fits, Low}
 use Rattle.gap.proofs.Parts.{held-front}
-use Rattle.feeding.specs.Feeding.{bedOf, pixelCheck, Holds, SteppedOn, Stepped, Opened, FedTo}
+use Rattle.feeding.specs.Feeding.{Trails, bedOf, pixelCheck, Holds, SteppedOn, Stepped, Opened, FedTo}
 use Rattle.feeding.specs.declared.Step.{Step}
 use Rattle.feeding.proofs.NextPlace.{holds-next}
 use Rattle.feeding.proofs.Steps.{check-full}
@@ -68,15 +73,29 @@ module _ (m k : ℕ) (b : bed.Bed) (a : ℕ) (bytes : List ℕ) where
 pub record Feeding (c : Scan) (slots bytes : List ℕ) (k p : ℕ) (s : List ℕ) (i b : ℕ) : Type 0 where
   pub raster : ℕ → ℕ
   pub fits : Fits s i b
+  pub trails : Trails (c .kind) s i b p
   pub long : length s ≡ length slots
   pub holds : Holds (c .kind) (c .order) p raster (tiles (held s i b))
   pub same : bed.feedPixels (length slots) 0 (bed.shownBed c slots) bytes ≡ bed.feedPixels (length slots) k (bedOf (c .kind) (c .order) p raster) (drop k bytes)
+
+-- in Morton order a tile of the list starts at a pixel that is scanned, since it is somebody's
+last-scanned : (c : Scan) (slots : List ℕ) → Opened c slots → c .kind ≡ Morton → Low slots (c .tiles) (c .pixels)
+unfolding placeOf
+last-scanned c slots o e h =
+    let u = tileOf (getD slots (c .tiles - 1) 0) in
+    let p = placed (valid-tiling (o .valid)) (tilesIn-in (c .tiles) slots (c .tiles - 1) (omega arith) (o .count)) in
+    let pos = area-pos (u .size) in
+    elim (decLt (u .corner) (c .pixels)) [
+      | yes l ↦ l
+      | no l ↦ absurd (omega (arith, p .on .owned, p .on .uniform (u .corner) (omega arith) (omega arith), o .blank (u .corner) (omega (arith, p .upto)) (rw e (omega arith))))
+    ]
 
 pub feeding-start : (c : Scan) (slots bytes : List ℕ) → Opened c slots → Feeding c slots bytes 0 (c .pixels) slots (c .tiles) (length slots)
 unfolding tilesIn
 feeding-start c slots bytes o = record {
   raster = accountAt (tilesIn (c .tiles) slots);
   fits = (o .count, omega arith);
+  trails = λ e. (refl, last-scanned c slots o e);
   long = refl;
   holds = record { is = ap tiles (held-front slots (c .tiles)) ∙ valid-quadtree (o .valid); within = o .scanned; blank = o .blank };
   same = refl;
@@ -117,6 +136,7 @@ module _ {c : Scan} {slots bytes : List ℕ} {k p : ℕ} {s : List ℕ} {i b : �
     feeding-on l q = record {
       raster = bed.putPixel now a .account;
       fits = step .fits;
+      trails = step .trails;
       long = l ∙ w .long;
       holds = holds-next (w .holds) (feeding-going q) a (on .done q);
       same = w .same ∙ rw split (pixel-on (length slots) k now a (drop (k + 1) bytes) (sym (on .number) ∙ q));

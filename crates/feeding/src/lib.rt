@@ -1,12 +1,13 @@
 // Pixels fed to a list with a gap, one account after the other.
-ghost use Prim.Native.Nat.{_^_, _<_, _≤_};
+ghost use Prim.Native.Nat.{_+_, _^_, _<_, _≤_};
 ghost use lib.ListN.{length};
 ghost use Rattle.morton.specs.Morton.{morton, sideBits};
-ghost use Rattle.tile.specs.Tile.{highestOrder};
+ghost use Rattle.tile.specs.Tile.{highestOrder, highestAccount};
+ghost use Rattle.bed.specs.Places.{pixelAt};
 ghost use Rattle.bed.specs.Bed.{shownBed, feedPixels};
 ghost use Rattle.merging.specs.Merging.{Levels};
-ghost use Rattle.gap.specs.Gap.{Fits};
-ghost use Rattle.feeding.specs.Feeding.{AtPlace, Stepped, Opened, FedTo};
+ghost use Rattle.gap.specs.Gap.{Fits, Placed};
+ghost use Rattle.feeding.specs.Feeding.{AtPlace, Trails, Stepped, Opened, FedTo};
 
 // A pixel's Morton number, and its levels: the size of the largest block that ends with it, which is as often as it can merge.
 pub struct Place {
@@ -70,7 +71,30 @@ fn next_place(kind: bed::Kind, order: u32, pixels: u32) -> Place
     }
 }
 
-// Puts an account on the next place: 23, 24, 25.
+// Puts somebody's account on the next place of a scan. By rows the place lies among the tiles; in Morton order it lies behind them all.
+fn put_next(
+    slots: &mut [u32],
+    front: usize,
+    back: usize,
+    kind: bed::Kind,
+    order: u32,
+    pixels: u32,
+    account: u8,
+) -> gap::Outcome
+    requires { ⌜ Fits (now slots) front back × Trails kind (now slots) front back pixels ⌝ }
+    requires { ⌜ (order ≤ highestOrder) × (pixels < 4 ^ order) ⌝ }
+    requires { ⌜ (0 < account) × (account ≤ highestAccount) ⌝ }
+    ensures { λ r. ⌜ Placed (now (slots .entry)) (now (slots .exit)) front back (pixelAt kind order pixels) account r ⌝ }
+    ensures { λ r. ⌜ Trails kind (now (slots .exit)) (r .front) (r .back) (pixels + 1) ⌝ }
+{
+    let place = next_place(kind, order, pixels);
+    match kind {
+        bed::Kind::Rows => gap::put(slots, front, back, place.z, place.levels, account),
+        bed::Kind::Morton => gap::append(slots, front, place.z, place.levels, account),
+    }
+}
+
+// Puts an account on the next place: 23, 24, 25. Nobody's changes nothing, so that its place is not computed.
 fn feed_pixel(
     slots: &mut [u32],
     front: usize,
@@ -80,7 +104,7 @@ fn feed_pixel(
     pixels: u32,
     account: u8,
 ) -> Step
-    requires { ⌜ Fits (now slots) front back ⌝ }
+    requires { ⌜ Fits (now slots) front back × Trails kind (now slots) front back pixels ⌝ }
     requires { ⌜ (order ≤ highestOrder) × (pixels ≤ 4 ^ order) ⌝ }
     ensures { λ r. ⌜ Stepped kind order pixels account (now (slots .entry)) (now (slots .exit)) front back r ⌝ }
 {
@@ -98,8 +122,14 @@ fn feed_pixel(
             back,
         };
     }
-    let place = next_place(kind, order, pixels);
-    let put = gap::put(slots, front, back, place.z, place.levels, account);
+    if account == 0 {
+        return Step {
+            number: refusal::ACCEPTED,
+            front,
+            back,
+        };
+    }
+    let put = put_next(slots, front, back, kind, order, pixels, account);
     if put.full {
         return Step {
             number: refusal::SLOTS_EXCEEDED,

@@ -166,8 +166,8 @@ placed-nobody s i b z a fit e = record {
 ltb-shift : (m b x y : ℕ) → b ≤ m → y ≡ x + (m - b) → ltb b x ≡ ltb m y
 ltb-shift m b x y h e = elim (decLt b x) [ yes l ↦ lt-ltb b x l ∙ sym (lt-ltb m y (omega arith)) | no l ↦ le-ltb b x (omega arith) ∙ sym (le-ltb m y (omega arith)) ]
 
-module _ (s t u : List ℕ) (i b z a : ℕ) (g : Gap) (p : Front) (pos : a ≡ 0 → ⊥) (st : length t ≡ length s) (tu : length u ≡ length t)
-    (moved : Moved s t i b g) (low : Low t (g .front) z) (high : High t (g .back) z) (pushed : Pushed t u (g .front) (g .back) z a p) where
+module _ (s t u : List ℕ) (i b z a : ℕ) (g : Gap) (p : Front) (pos : 0 < a) (st : length t ≡ length s) (tu : length u ≡ length t)
+    (moved : Moved s t i b z g) (pushed : Pushed t u (g .front) (g .back) z a p) where
   abbrev list : List Tile
   list = tiles (held s i b)
 
@@ -182,8 +182,8 @@ module _ (s t u : List ℕ) (i b z a : ℕ) (g : Gap) (p : Front) (pos : a ≡ 0
       let fit = moved .fits in
       let within : g .front ≤ length t = omega (arith, fit) in
       let v = rw split at w in
-      let q = put-quadtree t (g .front) (g .back) within low high v a (omega (arith, pos)) (pushed .top) (pushed .merged) in
-      let l = put-length t (g .front) (g .back) within low high v a (omega (arith, pos)) (pushed .top) (pushed .merged) (fit .1) in
+      let q = put-quadtree t (g .front) (g .back) within (moved .low) (moved .high) v a pos (pushed .top) (pushed .merged) in
+      let l = put-length t (g .front) (g .back) within (moved .low) (moved .high) v a pos (pushed .top) (pushed .merged) (fit .1) in
       record {
         full = pushed .full ∙ ltb-shift (length s) (g .back) (pushed .top .at + 1) (length (quadtree n (dotted f z a))) (omega (arith, fit)) (omega arith);
         done = λ r. after ∙ rw (pushed .done r, append-assoc (tiles (take (pushed .top .at) t)) (upTo z a (pushed .top .size) ∷ []) (tiles (drop (g .back) t))) q;

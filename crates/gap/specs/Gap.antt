@@ -9,7 +9,7 @@
 -- and in between:
 --     Pushed s t i b z a r   what the pixel leaves of the first i words, where the other part starts at b
 --     Low s i z, High s b z  the last tile of the first part starts ahead of z; the first tile of the other part does not
---     Moved s t i b g        the gap moved, and the same words are held
+--     Moved s t i b z g      the gap moved to the pixel z, and the same words are held
 use mathlib.Core.Path.{_≡_}
 use mathlib.Core.Bool.{Bool, true, false}
 use mathlib.Core.List.{List, [], _∷_, _++_}
@@ -48,6 +48,12 @@ pub record Placed (s t : List ℕ) (i b z a : ℕ) (r : Outcome) : Type 0 where
   pub fits : Fits t (r .front) (r .back)
   pub on : (n : ℕ) (f : ℕ → ℕ) → Awaits n f z (tiles (held s i b)) → PlacedOn n (length s) (dotted f z a) (tiles (held s i b)) (tiles (held t (r .front) (r .back))) (r .full)
 
+abbrev pub Low : List ℕ → ℕ → ℕ → Type 0
+Low s i z = 0 < i → tileOf (getD s (i - 1) 0) .corner < z
+
+abbrev pub High : List ℕ → ℕ → ℕ → Type 0
+High s b z = b < length s → z ≤ tileOf (getD s b 0) .corner
+
 -- the pixel is pushed on the first part, or this part has no slot for it
 pub record Pushed (s t : List ℕ) (i b z a : ℕ) (r : Front) : Type 0 where
   pub top : Top
@@ -57,13 +63,10 @@ pub record Pushed (s t : List ℕ) (i b z a : ℕ) (r : Front) : Type 0 where
   pub full : r .full ≡ ltb b (top .at + 1)
   pub done : r .full ≡ false → tiles (take (r .front) t) ≡ tiles (take (top .at) s) ++ upTo z a (top .size) ∷ []
   pub kept : r .full ≡ true → tiles (take (r .front) t) ≡ tiles (take i s)
+  pub low : Low s i z → Low t (r .front) (z + 1)
 
-abbrev pub Low : List ℕ → ℕ → ℕ → Type 0
-Low s i z = 0 < i → tileOf (getD s (i - 1) 0) .corner < z
-
-abbrev pub High : List ℕ → ℕ → ℕ → Type 0
-High s b z = b < length s → z ≤ tileOf (getD s b 0) .corner
-
-pub record Moved (s t : List ℕ) (i b : ℕ) (g : Gap) : Type 0 where
+pub record Moved (s t : List ℕ) (i b z : ℕ) (g : Gap) : Type 0 where
   pub fits : Fits t (g .front) (g .back)
   pub held : held t (g .front) (g .back) ≡ held s i b
+  pub low : Low t (g .front) z
+  pub high : High t (g .back) z

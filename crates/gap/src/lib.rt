@@ -2,11 +2,11 @@
 // its siblings ahead of it before it needs a slot.
 ghost use mathlib.Core.Path.{_≡_};
 ghost use mathlib.Core.List.{_++_};
-ghost use Prim.Native.Nat.{_-_, _^_, _<_, _≤_};
-ghost use lib.ListN.{replicate};
-ghost use Rattle.tile.specs.Tile.{highestOrder, highestAccount};
+ghost use Prim.Native.Nat.{_+_, _-_, _^_, _<_, _≤_};
+ghost use lib.ListN.{length, getD, replicate};
+ghost use Rattle.tile.specs.Tile.{tileOf, highestOrder, highestAccount};
 ghost use Rattle.merging.specs.Merging.{Levels};
-ghost use Rattle.gap.specs.Gap.{held, Fits, Placed, Pushed, Low, High, Moved};
+ghost use Rattle.gap.specs.Gap.{held, Fits, Placed, Pushed, Low, Moved};
 
 // Where the two parts of a list end and start.
 pub struct Gap {
@@ -48,61 +48,58 @@ fn push(slots: &mut [u32], front: usize, back: usize, z: u32, levels: u32, accou
     }
 }
 
-// Moves the words at the end of the front part whose corners are not below z to the other part.
-fn widen_back(slots: &mut [u32], front: usize, back: usize, z: u32) -> Gap
+// Moves the gap back to the pixel z, which the last tile of the front part does not start ahead of: the words from its place on go to the back
+// part in one piece.
+fn retreat(slots: &mut [u32], front: usize, back: usize, z: u32) -> Gap
     requires { ⌜ Fits (now slots) front back ⌝ }
-    ensures { λ r. ⌜ Moved (now (slots .entry)) (now (slots .exit)) front back r ⌝ }
-    ensures { λ r. ⌜ Low (now (slots .exit)) (r .front) z ⌝ }
+    requires { ⌜ (0 < front) × (z ≤ tileOf (getD (now slots) (front - 1) 0) .corner) ⌝ }
+    ensures { λ r. ⌜ Moved (now (slots .entry)) (now (slots .exit)) front back z r ⌝ }
 {
-    let mut i = front;
-    let mut b = back;
-    while 0 < i {
-        let w = slots[i - 1];
-        if tile::corner(w) < z {
-            return Gap { front: i, back: b };
-        }
-        i -= 1;
-        b -= 1;
-        slots[b] = w;
+    let at = search::cut(slots, 0, front - 1, z);
+    let k = back - front;
+    moves::move_up(slots, at, front, k);
+    Gap {
+        front: at,
+        back: at + k,
     }
-    Gap { front: i, back: b }
 }
 
-// Moves the words at the start of the back part whose corners are below z to the front part.
-fn widen_front(slots: &mut [u32], front: usize, back: usize, z: u32) -> Gap
+// Moves the gap on to the pixel z, which the first tile of the back part starts ahead of: the words up to its place, which is mostly near, go to
+// the front part in one piece.
+fn advance(slots: &mut [u32], front: usize, back: usize, z: u32) -> Gap
     requires { ⌜ Fits (now slots) front back ⌝ }
-    requires { ⌜ Low (now slots) front z ⌝ }
-    ensures { λ r. ⌜ Moved (now (slots .entry)) (now (slots .exit)) front back r ⌝ }
-    ensures { λ r. ⌜ Low (now (slots .exit)) (r .front) z ⌝ }
-    ensures { λ r. ⌜ High (now (slots .exit)) (r .back) z ⌝ }
+    requires { ⌜ (back < length (now slots)) × (tileOf (getD (now slots) back 0) .corner < z) ⌝ }
+    ensures { λ r. ⌜ Moved (now (slots .entry)) (now (slots .exit)) front back z r ⌝ }
 {
-    let mut i = front;
-    let mut b = back;
-    while b < slots.len() {
-        let w = slots[b];
-        if z <= tile::corner(w) {
-            return Gap { front: i, back: b };
-        }
-        slots[i] = w;
-        i += 1;
-        b += 1;
+    let to = search::reach(slots, back + 1, z);
+    let k = back - front;
+    moves::move_down(slots, front, to, k);
+    Gap {
+        front: to - k,
+        back: to,
     }
-    Gap { front: i, back: b }
 }
 
 // Moves the gap to the pixel z.
 fn seek(slots: &mut [u32], front: usize, back: usize, z: u32) -> Gap
     requires { ⌜ Fits (now slots) front back ⌝ }
-    ensures { λ r. ⌜ Moved (now (slots .entry)) (now (slots .exit)) front back r ⌝ }
-    ensures { λ r. ⌜ Low (now (slots .exit)) (r .front) z ⌝ }
-    ensures { λ r. ⌜ High (now (slots .exit)) (r .back) z ⌝ }
+    ensures { λ r. ⌜ Moved (now (slots .entry)) (now (slots .exit)) front back z r ⌝ }
 {
-    let g = widen_back(slots, front, back, z);
-    widen_front(slots, g.front, g.back, z)
+    if 0 < front {
+        if z <= tile::corner(slots[front - 1]) {
+            return retreat(slots, front, back, z);
+        }
+    }
+    if back < slots.len() {
+        if tile::corner(slots[back]) < z {
+            return advance(slots, front, back, z);
+        }
+    }
+    Gap { front, back }
 }
 
-// Puts an account on the pixel z of the list, if the list that this makes has a slot for each of its tiles. `levels` is the size of the largest
-// block that ends with z.
+// Puts somebody's account on the pixel z of the list, if the list that this makes has a slot for each of its tiles. `levels` is the size of the
+// largest block that ends with z.
 pub fn put(
     slots: &mut [u32],
     front: usize,
@@ -112,20 +109,30 @@ pub fn put(
     account: u8,
 ) -> Outcome
     requires { ⌜ Fits (now slots) front back ⌝ }
-    requires { ⌜ (z < 4 ^ highestOrder) × (account ≤ highestAccount) ⌝ }
+    requires { ⌜ (z < 4 ^ highestOrder) × (0 < account) × (account ≤ highestAccount) ⌝ }
     requires { ⌜ Levels z levels ⌝ }
     ensures { λ r. ⌜ Placed (now (slots .entry)) (now (slots .exit)) front back z account r ⌝ }
 {
-    if account == 0 {
-        return Outcome {
-            full: false,
-            front,
-            back,
-        };
-    }
     let g = seek(slots, front, back, z);
     let back = g.back;
     let p = push(slots, g.front, back, z, levels, account);
+    Outcome {
+        full: p.full,
+        front: p.front,
+        back,
+    }
+}
+
+// The same where all the words lie in the front part and their tiles start ahead of z, so that nothing is searched.
+pub fn append(slots: &mut [u32], front: usize, z: u32, levels: u32, account: u8) -> Outcome
+    requires { ⌜ (front ≤ length (now slots)) × Low (now slots) front z ⌝ }
+    requires { ⌜ (z < 4 ^ highestOrder) × (0 < account) × (account ≤ highestAccount) ⌝ }
+    requires { ⌜ Levels z levels ⌝ }
+    ensures { λ r. ⌜ Placed (now (slots .entry)) (now (slots .exit)) front (length (now (slots .entry))) z account r ⌝ }
+    ensures { λ r. ⌜ (r .back ≡ length (now (slots .exit))) × Low (now (slots .exit)) (r .front) (z + 1) ⌝ }
+{
+    let back = slots.len();
+    let p = push(slots, front, back, z, levels, account);
     Outcome {
         full: p.full,
         front: p.front,

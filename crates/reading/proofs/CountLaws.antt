@@ -6,10 +6,11 @@
 --     ahead-none                   no tile lies ahead of where the list starts
 --     ahead-past, ahead-upto       what the tile at i says of how many are ahead
 --     slot-past, slot-upto         what the tile in slot i says of it
+--     ahead-cut                    the place of a Morton number among the slots is how many are ahead
 use mathlib.Core.Path.{_≡_, refl}
 use mathlib.Core.Bool.{Bool}
 use mathlib.Core.List.{List, [], _∷_, List·Memᴰ·head, List·Memᴰ·tail}
-use Prim.Native.Nat.{ℕ, zero, suc, _+_, _^_, _≤_, _<_}
+use Prim.Native.Nat.{ℕ, zero, suc, _+_, _-_, _^_, _≤_, _<_}
 use native.Mathlib.Decide.{decLt}
 use native.Mathlib.Omega.{arith}
 use lib.ListN.{length, getD}
@@ -21,6 +22,7 @@ use Rattle.tile.specs.Slots.{tilesIn}
 use Rattle.tile.proofs.SlotsLaws.{length-tilesIn}
 use Rattle.quadtree.specs.Raster.{_∈_}
 use Rattle.quadtree.specs.Quadtree.{Rising, end, link}
+use Rattle.search.specs.Cut.{Cut}
 use Rattle.reading.specs.Part.{isAhead, isInside, counted}
 use Rattle.tile.proofs.SlotTiles.{tilesIn-at}
 
@@ -91,3 +93,12 @@ module _ (t : ℕ) (slots : List ℕ) (count : t ≤ length slots) (rising : Ris
 
   pub slot-upto : z ≤ tileOf (getD slots i 0) .corner → counted (isAhead z) (tilesIn t slots) ≤ i
   slot-upto l = ahead-upto (tileOf 0) i z rising (omega (arith, length-tilesIn t slots count)) (rw (tilesIn-at t slots i h) l)
+
+pub ahead-cut : (t : ℕ) (slots : List ℕ) → t ≤ length slots → Rising 0 (tilesIn t slots) → (z r : ℕ) → Cut slots 0 t z r → r ≡ counted (isAhead z) (tilesIn t slots)
+ahead-cut t slots count rising z r w = omega (arith, low, high)
+  where
+    low : r ≤ counted (isAhead z) (tilesIn t slots)
+    low = elim (decLt 0 r) [ yes h ↦ omega (arith, slot-past t slots count rising (r - 1) z (omega (arith, w .to)) (w .ahead h)) | no h ↦ omega arith ]
+
+    high : counted (isAhead z) (tilesIn t slots) ≤ r
+    high = elim (decLt r t) [ yes h ↦ slot-upto t slots count rising r z h (w .behind h) | no h ↦ omega (arith, counted-le (test-ahead z) (tilesIn t slots), length-tilesIn t slots count) ]

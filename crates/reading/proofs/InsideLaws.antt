@@ -34,7 +34,7 @@ use Rattle.bed.specs.Bed.{blockIn}
 use Rattle.reading.specs.declared.Part.{Part}
 use Rattle.reading.specs.Part.{isAhead, isInside, counted, partCheck, partOf, sliceOf}
 use Rattle.reading.proofs.CountLaws.{test-ahead, test-inside, counted-yes, counted-le, counted-none, rising-from, ahead-none, slot-past, slot-upto}
-use Rattle.tile.proofs.SlotTiles.{tilesIn-at}
+use Rattle.tile.proofs.SlotTiles.{tilesIn-at, getD-in}
 use Rattle.reading.proofs.LookupLaws.{chain-rising}
 
 module _ (c k : ℕ) where
@@ -78,11 +78,6 @@ chain-apart (valid.link p r) (List·Memᴰ·head e) (List·Memᴰ·head g) h = a
 chain-apart (valid.link p r) (List·Memᴰ·head e) (List·Memᴰ·tail j) h = omega (arith, ap stop e, rising-from (chain-rising r) j)
 chain-apart (valid.link {t = t} p r) (List·Memᴰ·tail i) (List·Memᴰ·head g) h = absurd (omega (arith, ap (λ (x : Tile). x .corner) g, rising-from (chain-rising r) i, area-pos (t .size)))
 chain-apart (valid.link p r) (List·Memᴰ·tail i) (List·Memᴰ·tail j) h = chain-apart r i j h
-
-getD-in : (us : List Tile) (i : ℕ) (d : Tile) → i < length us → getD us i d ∈ us
-getD-in [] i d l = absurd (omega arith)
-getD-in (u ∷ us) zero d l = List·Memᴰ·head refl
-getD-in (u ∷ us) (suc i) d l = List·Memᴰ·tail (getD-in us i d (omega arith))
 
 -- a tile that starts in a block and is larger starts at its corner
 larger-corner : {j k x c : ℕ} → k ≤ j → Aligned j x → Aligned k c → c ≤ x → x < c + 4 ^ k → x ≡ c

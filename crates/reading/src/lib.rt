@@ -32,17 +32,7 @@ pub fn ahead(slots: &[u32], tiles: usize, z: u32) -> usize
     requires { ⌜ (tiles ≤ length (now slots)) × Rising 0 (tilesIn tiles (now slots)) ⌝ }
     ensures { λ r. ⌜ r ≡ counted (isAhead z) (tilesIn tiles (now (slots .entry))) ⌝ }
 {
-    let mut from = 0;
-    let mut to = tiles;
-    while from < to {
-        let middle = from + (to - from) / 2;
-        if tile::corner(slots[middle]) < z {
-            from = middle + 1;
-        } else {
-            to = middle;
-        }
-    }
-    from
+    search::cut(slots, 0, tiles, z)
 }
 
 // Rows 1, 2 and 11 to 16, then 31.

@@ -24,7 +24,7 @@ loop-holds c = (omega arith, feeding-start _ _ _ (c .before .before .pre))
 feed-pixel-requires : tie.Need-feed-pixel-requires Inv-loop μ-loop
 feed-pixel-requires c κs =
     let l = c .before .before .before .loop in
-    (l .inv .1 .fits, (c .before .before .before .before .before .before .pre .order, l .inv .1 .holds .within))
+    ((l .inv .1 .fits, l .inv .1 .trails), (c .before .before .before .before .before .before .pre .order, l .inv .1 .holds .within))
 
 returns : tie.Need-returns Inv-loop μ-loop
 returns c = feeding-stop (c .before .before .before .before .before .before .before .loop .inv .1) (omega arith) _ refl _ (c .before .before .before .feed-pixel .result) (c .before .before .before .feed-pixel .ensures) (c .if1 .taken)

@@ -1,0 +1,12 @@
+-- Where a Morton number falls among words: what the contracts of this crate cite. Definitions only.
+--     Cut s i j z r   from i to j, the tile of the word ahead of r starts below z, and that of the word at r does not
+use Prim.Native.Nat.{ℕ, _-_, _≤_, _<_}
+use mathlib.Core.List.{List}
+use lib.ListN.{getD}
+use Rattle.tile.specs.Tile.{tileOf}
+
+pub record Cut (s : List ℕ) (i j z r : ℕ) : Type 0 where
+  pub from : i ≤ r
+  pub to : r ≤ j
+  pub ahead : i < r → tileOf (getD s (r - 1) 0) .corner < z
+  pub behind : r < j → z ≤ tileOf (getD s r 0) .corner

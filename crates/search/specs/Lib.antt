@@ -1,0 +1,2 @@
+-- The place of a Morton number among words.
+pub mod Cut

@@ -1,0 +1,40 @@
+// Where a Morton number falls among words: the tile ahead of the place starts below it, and the tile there does not. Nothing is asked of the
+// words; in a list by rising corners there is one such place.
+ghost use Prim.Native.Nat.{_≤_};
+ghost use lib.ListN.{length};
+ghost use Rattle.search.specs.Cut.{Cut};
+
+// The place of z from `from` to `to`: by halves.
+pub fn cut(slots: &[u32], from: usize, to: usize, z: u32) -> usize
+    requires { ⌜ (from ≤ to) × (to ≤ length (now slots)) ⌝ }
+    ensures { λ r. ⌜ Cut (now (slots .entry)) from to z r ⌝ }
+{
+    let mut low = from;
+    let mut high = to;
+    while low < high {
+        let middle = low + (high - low) / 2;
+        if tile::corner(slots[middle]) < z {
+            low = middle + 1;
+        } else {
+            high = middle;
+        }
+    }
+    low
+}
+
+// The place of z from `from` on, where it is expected to be near: in steps that double, and by halves in the last of them.
+pub fn reach(slots: &[u32], from: usize, z: u32) -> usize
+    requires { ⌜ from ≤ length (now slots) ⌝ }
+    ensures { λ r. ⌜ Cut (now (slots .entry)) from (length (now (slots .entry))) z r ⌝ }
+{
+    let n = slots.len();
+    let mut low = from;
+    while low - from < n - low {
+        let probe = low + (low - from);
+        if z <= tile::corner(slots[probe]) {
+            return cut(slots, low, probe, z);
+        }
+        low = probe + 1;
+    }
+    cut(slots, low, n, z)
+}
