@@ -1,2 +1,3 @@
--- The roster.
+-- The roster, and sets of accounts.
 pub mod Roster
+pub mod Accounts
