@@ -1,10 +1,9 @@
 -- The passes of the writer, turn by turn: what is done and what is left make the whole.
 --     covered-start, -on, -end   the pixels of an account, by the words from i on
---     entryOf-length             an account with pixels has one entry
+--     entryOf-count, -length     an account with pixels has one entry, one without has none
 --     entry-none, entry-one      one step of the roster, without and with an entry
 --     rosterFrom-entry           the roster from an account on is its entry, if it has one, and the roster behind it
 --     rosterAt ts a              the roster from the account a on, to the highest
---     accounts-on, -end          the entries counted, by the accounts from a on
 --     length-entriesBytes        entries take 5 bytes each
 --     entries-on, -end           the entries stored, by the accounts from a on
 --     entries-room               the room that they need
@@ -50,7 +49,7 @@ unfolding if
 entry-length true e = refl
 entry-length false e = refl
 
-entryOf-count : (a x : ℕ) → length (entryOf a x) ≡ if (ltb 0 x) 1 0
+pub entryOf-count : (a x : ℕ) → length (entryOf a x) ≡ if (ltb 0 x) 1 0
 unfolding entryOf
 entryOf-count a x = entry-length (ltb 0 x) (record { account = a; pixels = x })
 
@@ -89,13 +88,6 @@ rosterAt-entry ts a h =
 rosterAt-end : (ts : List Tile) (a : ℕ) → a ≡ suc highestAccount → rosterAt ts a ≡ []
 unfolding rosterFrom
 rosterAt-end ts a h = let e : suc highestAccount - a ≡ 0 = omega arith in rw e
-
-module _ (ts : List Tile) (a found : ℕ) {all : ℕ} (e : found + length (rosterAt ts a) ≡ all) where
-  pub accounts-on : (x y : ℕ) → a ≤ highestAccount → y ≡ covered a ts → x ≡ if (ltb 0 y) 1 0 → found + x + length (rosterAt ts (a + 1)) ≡ all
-  accounts-on x y h ey ex = omega (arith, ap length (rosterAt-entry ts a h), length-append (entryOf a (covered a ts)) (rosterAt ts (a + 1)), entryOf-count a (covered a ts), ex ∙ ap (λ (z : ℕ). if (ltb 0 z) 1 0) ey)
-
-  pub accounts-end : a ≡ suc highestAccount → found ≡ all
-  accounts-end h = omega (arith, ap length (rosterAt-end ts a h))
 
 entriesBytes-append : (es fs : List Entry) → entriesBytes (es ++ fs) ≡ entriesBytes es ++ entriesBytes fs
 unfolding entriesBytes

@@ -1,14 +1,14 @@
-// The sections of a map file, stored into bytes: words, and the roster, which is counted from the list with a pass for each account.
+// The sections of a map file, stored into bytes: words, and the roster, which is counted from the list with a pass for each account that has tiles.
 ghost use mathlib.Core.Path.{_≡_};
 ghost use Prim.Native.Nat.{_+_, _*_, _%_, _≤_};
 ghost use lib.Dec.{ltb};
 ghost use lib.ListN.{length, take};
 ghost use lib.Seq.{sets};
-ghost use Rattle.basics.specs.Choice.{if};
-ghost use Rattle.tile.specs.Tile.{highestOrder};
+ghost use Rattle.tile.specs.Tile.{highestOrder, highestAccount};
 ghost use Rattle.tile.specs.Slots.{tilesIn};
 ghost use Rattle.quadtree.specs.Valid.{Valid};
 ghost use Rattle.roster.specs.Roster.{covered, rosterOf};
+ghost use Rattle.roster.specs.Accounts.{SetOf};
 ghost use Rattle.sections.specs.OneEntry.{entryOf};
 ghost use Rattle.sections.specs.Sections.{wordBytes, wordsBytes, entriesBytes};
 
@@ -61,28 +61,38 @@ fn total(account: u8, order: u32, tiles: usize, slots: &[u32]) -> u32
     sum
 }
 
-// 1 for an account that covers pixels, else 0.
-fn present(pixels: u32) -> usize
-    ensures { λ r. ⌜ r ≡ if (ltb 0 pixels) 1 0 ⌝ }
+// The set of the accounts that have tiles: one pass over the list.
+fn tiled(tiles: usize, slots: &[u32]) -> u64
+    requires { ⌜ tiles ≤ length (now slots) ⌝ }
+    ensures { λ r. ⌜ SetOf (λ a. ltb 0 (covered a (tilesIn tiles (now (slots .entry))))) r ⌝ }
 {
-    if pixels == 0 {
-        return 0;
+    let mut set = 0;
+    let mut i = 0;
+    while i < tiles {
+        set = roster::with(set, tile::account(slots[i]));
+        i += 1;
     }
-    1
+    set
 }
 
-// How many accounts have tiles: a pass over the list for each account.
+// How many accounts have tiles: the members of their set, from the lowest account on.
 pub fn accounts(order: u32, tiles: usize, slots: &[u32]) -> usize
     requires { ⌜ (order ≤ highestOrder) × (tiles ≤ length (now slots)) × Valid order (tilesIn tiles (now slots)) ⌝ }
     ensures { λ r. ⌜ r ≡ length (rosterOf (tilesIn tiles (now (slots .entry)))) ⌝ }
 {
-    let mut found = 0;
-    let mut account = LOWEST_ACCOUNT;
-    while account <= tile::HIGHEST_ACCOUNT {
-        found += present(total(account, order, tiles, slots));
-        account += 1;
+    let set = tiled(tiles, slots);
+    u64::count_ones(set >> LOWEST_ACCOUNT) as usize
+}
+
+// The pixels that an account covers: none where it is not in the set of the accounts that have tiles, else one pass over the list.
+fn pixels_of(set: u64, account: u8, order: u32, tiles: usize, slots: &[u32]) -> u32
+    requires { ⌜ (account ≤ highestAccount) × SetOf (λ a. ltb 0 (covered a (tilesIn tiles (now slots)))) set × (order ≤ highestOrder) × (tiles ≤ length (now slots)) × Valid order (tilesIn tiles (now slots)) ⌝ }
+    ensures { λ r. ⌜ r ≡ covered account (tilesIn tiles (now (slots .entry))) ⌝ }
+{
+    if !roster::has(set, account) {
+        return 0;
     }
-    found
+    total(account, order, tiles, slots)
 }
 
 // The entry of an account that covers pixels into the bytes from `p` on; answers where the next one goes.
@@ -103,10 +113,11 @@ pub fn put_entries(order: u32, tiles: usize, slots: &[u32], at: usize, file: &mu
     requires { ⌜ (order ≤ highestOrder) × (tiles ≤ length (now slots)) × Valid order (tilesIn tiles (now slots)) × (at + 5 * length (rosterOf (tilesIn tiles (now slots))) ≤ length (now file)) ⌝ }
     ensures { λ r. ⌜ now (file .exit) ≡ sets (now (file .entry)) at (entriesBytes (rosterOf (tilesIn tiles (now (slots .entry))))) ⌝ }
 {
+    let set = tiled(tiles, slots);
     let mut p = at;
     let mut account = LOWEST_ACCOUNT;
     while account <= tile::HIGHEST_ACCOUNT {
-        let pixels = total(account, order, tiles, slots);
+        let pixels = pixels_of(set, account, order, tiles, slots);
         p = put_entry(file, p, account, pixels);
         account += 1;
     }
