@@ -8,10 +8,11 @@ use Prim.Native.Nat.{ℕ, suc, _+_, _-_, _<_}
 use native.Mathlib.Omega.{arith}
 use lib.Dec.{ltb}
 use lib.ListN.{getD}
-use borrow.Author.Tests.{lt-ltb}
 use Rattle.tile.specs.Tile.{Tile, tileOf}
+use Rattle.tile.proofs.TileLaws.{tileOf-account}
 use Rattle.items.specs.Items.{wordAt, wordsAt}
 use Rattle.roster.specs.Roster.{Entry, listed, entryGood, entriesGood, tilesListed}
+use Rattle.roster.specs.Accounts.{has, SetOf}
 use Rattle.rostercheck.specs.RosterCheck.{entriesAt}
 
 module _ (ts : List Tile) (all : List Entry) (q : ℕ) (rs : List ℕ) where
@@ -43,13 +44,15 @@ module _ (all : List Entry) (t : ℕ) (bs : List ℕ) where
     unfolding tilesListed wordsAt
     tiles-end h = let z : t - i ≡ 0 = omega arith in sym (e ∙ rw z)
 
-    module _ (h : i < t) (v a m : ℕ) (ev : v ≡ wordAt bs p) (ea : a ≡ tileOf v .account) (em : m ≡ listed a all) where
-      tile-turn : w ≡ (ltb 0 m && tilesListed all (map tileOf (wordsAt (t - (i + 1)) bs (p + 4))))
+    module _ {set : ℕ} (s : SetOf (λ x. ltb 0 (listed x all)) set) (h : i < t) (v a : ℕ) (g : Bool) (ev : v ≡ wordAt bs p) (ea : a ≡ tileOf v .account) (eg : g ≡ has set a) where
+      tile-turn : w ≡ (g && tilesListed all (map tileOf (wordsAt (t - (i + 1)) bs (p + 4))))
       unfolding tilesListed wordsAt
-      tile-turn = let z : t - i ≡ suc (t - (i + 1)) = omega arith in e ∙ rw (z, ← ev, em, ea)
+      tile-turn =
+          let z : t - i ≡ suc (t - (i + 1)) = omega arith in
+          e ∙ rw (z, ← ev, eg, s .test a (omega (arith, tileOf-account v)), ea)
 
-      pub tiles-on : (m ≡ 0 → ⊥) → w ≡ tilesListed all (map tileOf (wordsAt (t - (i + 1)) bs (p + 4)))
-      tiles-on k = tile-turn ∙ rw (lt-ltb 0 m (omega arith))
+      pub tiles-on : g ≡ true → w ≡ tilesListed all (map tileOf (wordsAt (t - (i + 1)) bs (p + 4)))
+      tiles-on k = tile-turn ∙ rw k
 
-      pub tiles-stop : m ≡ 0 → false ≡ w
+      pub tiles-stop : g ≡ false → false ≡ w
       tiles-stop k = sym (tile-turn ∙ rw k)

@@ -1,14 +1,16 @@
 // The roster section of a map file, checked against the tiles: read only, with a pass over the words for each entry.
 ghost use mathlib.Core.Path.{_≡_};
+ghost use mathlib.Core.Bool.{_||_};
 ghost use mathlib.Core.List.{map};
 ghost use Prim.Native.Nat.{_+_, _*_, _≤_};
-ghost use lib.Dec.{eqb};
+ghost use lib.Dec.{ltb, eqb};
 ghost use lib.ListN.{length, getD};
 ghost use Rattle.basics.specs.Choice.{if};
 ghost use Rattle.tile.specs.Tile.{tileOf, highestOrder};
 ghost use Rattle.quadtree.specs.Valid.{Valid};
 ghost use Rattle.items.specs.Items.{wordAt, wordsAt};
 ghost use Rattle.roster.specs.Roster.{covered, listed, entryGood, entriesGood, tilesListed, rosterGood};
+ghost use Rattle.roster.specs.Accounts.{has, SetOf};
 ghost use Rattle.rostercheck.specs.RosterCheck.{entriesAt, rosterCheck};
 
 // The pixels that an account covers.
@@ -97,15 +99,42 @@ fn entries_good(order: u32, tiles: usize, file: &[u8], entries: usize, section: 
     true
 }
 
+// A set of accounts with the account of an entry: a byte above the highest account is none.
+fn with_entry(set: u64, account: u8) -> u64
+    ensures { λ r. ⌜ SetOf (λ a. eqb account a || has set a) r ⌝ }
+{
+    if account > tile::HIGHEST_ACCOUNT {
+        return set;
+    }
+    roster::with(set, account)
+}
+
+// The set of the accounts that have entries: one pass over the entries.
+fn named(entries: usize, section: &[u8]) -> u64
+    requires { ⌜ 1 + 5 * entries ≤ length (now section) ⌝ }
+    ensures { λ r. ⌜ SetOf (λ a. ltb 0 (listed a (entriesAt entries (now (section .entry)) 1))) r ⌝ }
+{
+    let mut set = 0;
+    let mut j = 0;
+    let mut p = 1;
+    while j < entries {
+        set = with_entry(set, section[p]);
+        j += 1;
+        p += 5;
+    }
+    set
+}
+
 // Each tile's account has an entry.
 fn tiles_listed(tiles: usize, file: &[u8], entries: usize, section: &[u8]) -> bool
     requires { ⌜ (5 + 4 * tiles ≤ length (now file)) × (1 + 5 * entries ≤ length (now section)) ⌝ }
     ensures { λ r. ⌜ r ≡ tilesListed (entriesAt entries (now (section .entry)) 1) (map tileOf (wordsAt tiles (now (file .entry)) 5)) ⌝ }
 {
+    let set = named(entries, section);
     let mut i = 0;
     let mut p = 5;
     while i < tiles {
-        if entries_of(tile::account(items::word_at(file, p)), entries, section) == 0 {
+        if !roster::has(set, tile::account(items::word_at(file, p))) {
             return false;
         }
         i += 1;
