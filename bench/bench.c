@@ -12,7 +12,8 @@
 #include <time.h>
 
 #define BATCH 5e6 /* nanoseconds that a batch takes at least */
-#define TURNS 5
+#define LONG 2.5e8 /* what takes longer is timed once */
+#define TURNS 7
 
 static double now(void)
 {
@@ -43,7 +44,7 @@ static double now(void)
             TIME(second, other_call)                               \
             (ours) = turn && (ours) < first ? (ours) : first;      \
             (other) = turn && (other) < second ? (other) : second; \
-            if (first > 50 * BATCH)                                \
+            if (first > LONG)                                \
                 break;                                             \
         }                                                          \
     } while (0)
@@ -79,6 +80,15 @@ static size_t scan(struct bench *b, fresh_call *fresh, feed_call *feed, uint32_t
     return tiles;
 }
 
+/* A whole scan by document 001's algorithm. */
+static void linked_scan(struct bench *b)
+{
+    size_t side = (size_t)1 << b->order;
+    linked_fresh(b->linked);
+    for (size_t row = 0; row < side; row++)
+        linked_row(b->linked, b->rows + row * side);
+}
+
 static void same(struct bench *b, const uint32_t *list, size_t tiles, const char *what)
 {
     if (tiles != b->tiles || memcmp(list, b->list, tiles * sizeof *list)) {
@@ -102,33 +112,45 @@ static void set_up(struct bench *b, int kind, uint32_t order)
     same(b, b->slots, scan(b, straight_fresh, straight_feed, KB_MORTON, b->room, b->pixels), "straightforward C in Morton order");
     same(b, b->other, bottom_up(order, b->rows, b->other), "the bottom-up build");
     same(b, b->other, morton_stack(b->morton, b->pixels, b->other), "the stack");
-    linked_fresh(b->linked);
-    for (size_t row = 0; row < (size_t)1 << order; row++)
-        linked_row(b->linked, b->rows + (row << order));
+    linked_scan(b);
     same(b, b->other, linked_list(b->linked, b->other), "document 001's list");
     /* By rows a list is longer on the way; in Morton order by three tiles of each size at most. */
     size_t most = linked_most(b->linked), morton = b->tiles + 3 * order + 1;
     b->room = most > morton ? most : morton;
 }
 
-/* One row of the table of feeds. */
-static void feeds(struct bench *b, const char *name)
+/* The ways to build a list that the table of feeds compares. */
+enum { OURS, STRAIGHT, OURS_BY_ROW, STRAIGHT_BY_ROW, BUILT, OTHER, WAYS };
+
+static void build_once(struct bench *b, uint32_t kind, int way)
 {
     size_t m = b->room, all = b->pixels, row = (size_t)1 << b->order;
-    double ours = 0, straight = 0, linked = 0, built = 0, stack = 0;
-    fprintf(stderr, "feeds, order %u, %s\n", b->order, name);
-    printf("| %u | %s | %zu | %zu ", b->order, name, b->tiles, m);
-    BOTH(linked, linked_fresh(b->linked); for (size_t y = 0; y < row; y++) linked_row(b->linked, b->rows + y * row), built,
-         bottom_up(b->order, b->rows, b->other));
-    BOTH(ours, scan(b, kb_fresh, kb_feed, KB_ROWS, m, all), straight, scan(b, straight_fresh, straight_feed, KB_ROWS, m, all));
-    printf("| %.2f | %.2f | %.2f | %.2f ", ours / (double)all, ours / straight, ours / linked, ours / built);
-    BOTH(ours, scan(b, kb_fresh, kb_feed, KB_ROWS, m, row), straight, scan(b, straight_fresh, straight_feed, KB_ROWS, m, row));
-    printf("| %.2f | %.2f | %.2f ", ours / (double)all, ours / straight, ours / linked);
-    BOTH(ours, scan(b, kb_fresh, kb_feed, KB_MORTON, m, all), stack, morton_stack(b->morton, all, b->other));
-    BOTH(ours, scan(b, kb_fresh, kb_feed, KB_MORTON, m, all), straight, scan(b, straight_fresh, straight_feed, KB_MORTON, m, all));
-    printf("| %.2f | %.2f | %.2f ", ours / (double)all, ours / straight, ours / stack);
-    BOTH(ours, scan(b, kb_fresh, kb_feed, KB_MORTON, m, row), straight, scan(b, straight_fresh, straight_feed, KB_MORTON, m, row));
-    printf("| %.2f | %.2f | %.2f |\n", ours / (double)all, ours / straight, ours / stack);
+    switch (way) {
+    case OURS: scan(b, kb_fresh, kb_feed, kind, m, all); break;
+    case STRAIGHT: scan(b, straight_fresh, straight_feed, kind, m, all); break;
+    case OURS_BY_ROW: scan(b, kb_fresh, kb_feed, kind, m, row); break;
+    case STRAIGHT_BY_ROW: scan(b, straight_fresh, straight_feed, kind, m, row); break;
+    case BUILT: bottom_up(b->order, b->rows, b->other); break;
+    default: kind == KB_ROWS ? linked_scan(b) : (void)morton_stack(b->morton, all, b->other);
+    }
+}
+
+/* Half a row of the table of feeds, by kind: the least time of each way, in turns of all of them. */
+static void feeds(struct bench *b, uint32_t kind)
+{
+    double best[WAYS] = {0}, all = (double)b->pixels;
+    for (int turn = 0; turn < TURNS; turn++)
+        for (int way = 0; way < WAYS; way++) {
+            double took;
+            if (turn && best[way] > LONG)
+                continue;
+            TIME(took, build_once(b, kind, way))
+            best[way] = turn && best[way] < took ? best[way] : took;
+        }
+    printf("| %.2f | %.2f | %.2f ", best[OURS] / all, best[OURS] / best[STRAIGHT], best[OURS] / best[OTHER]);
+    if (kind == KB_ROWS)
+        printf("| %.2f ", best[OURS] / best[BUILT]);
+    printf("| %.2f | %.2f | %.2f ", best[OURS_BY_ROW] / all, best[OURS_BY_ROW] / best[STRAIGHT_BY_ROW], best[OURS_BY_ROW] / best[OTHER]);
 }
 
 /* A cell: nanoseconds for each tile, pixel or slot, and the ratio to straightforward C. */
@@ -138,16 +160,14 @@ static void cell(double ours, double straight, size_t units)
 }
 
 /* One row of the table of the other calls. Every call but the fresh scan and the reader checks the list first. */
-static void calls(struct bench *b, const char *name)
+static void calls(struct bench *b)
 {
     uint32_t order = b->order, side = 1u << order, at = side / 3, corner = straight_morton(at & ~3u, at & ~3u);
     size_t tiles = b->tiles, m = tiles + 40;
     double ours = 0, straight = 0;
-    fprintf(stderr, "calls, order %u, %s\n", order, name);
     uint32_t *slots = b->slots;
     memset(slots, 0, m * sizeof *slots);
     memcpy(slots, b->list, tiles * sizeof *slots);
-    printf("| %u | %s | %zu ", order, name, tiles);
     BOTH(ours, kb_check(order, tiles, slots, m), straight, straight_check(order, tiles, slots, m));
     cell(ours, straight, tiles);
     BOTH(ours, kb_lookup(order, tiles, slots, m, at, at), straight, straight_lookup(order, tiles, slots, m, at, at));
@@ -173,7 +193,6 @@ static void calls(struct bench *b, const char *name)
     cell(ours, straight, b->pixels);
     BOTH(ours, kb_fresh(KB_ROWS, order, slots, b->pixels), straight, straight_fresh(KB_ROWS, order, slots, b->pixels));
     cell(ours, straight, b->pixels);
-    printf("|\n");
 }
 
 int main(int argc, char **argv)
@@ -209,10 +228,16 @@ int main(int argc, char **argv)
             b.linked = linked_new(order);
             for (int kind = 0; kind < BED_KINDS; kind++) {
                 set_up(&b, kind, order);
-                if (pass == 0)
-                    feeds(&b, bed_names[kind]);
-                else
-                    calls(&b, bed_names[kind]);
+                fprintf(stderr, "%s, order %u, %s\n", pass ? "calls" : "feeds", order, bed_names[kind]);
+                printf("| %u | %s | %zu ", order, bed_names[kind], b.tiles);
+                if (pass == 0) {
+                    printf("| %zu ", b.room);
+                    feeds(&b, KB_ROWS);
+                    feeds(&b, KB_MORTON);
+                } else {
+                    calls(&b);
+                }
+                printf("|\n");
                 fflush(stdout);
             }
             linked_free(b.linked);
