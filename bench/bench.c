@@ -212,10 +212,10 @@ int main(int argc, char **argv)
     if (!b.rows || !b.morton || !b.raster || !b.file || !b.list || !b.slots || !b.other)
         return 1;
     printf("Feeds: nanoseconds for each pixel, then the library's time divided by that of each other way. Every feed of the library and "
-           "of the same in C\nchecks the whole list and clears the slots past it; the other ways keep their list between rows and check "
+           "of the plain C\nchecks the whole list and clears the slots past it; the other ways keep their list between rows and check "
            "nothing.\n\n");
-    printf("| order | bed | tiles | slots lent | rows, at once | same in C | 001 | bottom-up | rows, row by row | same in C | 001 "
-           "| Morton, at once | same in C | stack | Morton, row by row | same in C | stack |\n"
+    printf("| order | bed | tiles | slots lent | rows, at once | plain C | 001 | bottom-up | rows, row by row | plain C | 001 "
+           "| Morton, at once | plain C | stack | Morton, row by row | plain C | stack |\n"
            "|---|---|---|---|---|---|---|---|---|---|---|---|---|---|---|---|---|\n");
     for (int pass = 0; pass < 2; pass++) {
         if (pass == 1)

@@ -1,4 +1,5 @@
 // Pixels fed to a list with a gap, one account after the other.
+ghost use mathlib.Core.Path.{_≡_};
 ghost use Prim.Native.Nat.{_+_, _^_, _<_, _≤_};
 ghost use lib.ListN.{length};
 ghost use Rattle.morton.specs.Morton.{morton, sideBits};
@@ -7,7 +8,7 @@ ghost use Rattle.bed.specs.Places.{pixelAt};
 ghost use Rattle.bed.specs.Bed.{shownBed, feedPixels};
 ghost use Rattle.merging.specs.Merging.{Levels};
 ghost use Rattle.gap.specs.Gap.{Fits, Placed};
-ghost use Rattle.feeding.specs.Feeding.{AtPlace, Trails, Stepped, Opened, FedTo};
+ghost use Rattle.feeding.specs.Feeding.{AtPlace, Trails, byteCheck, Stepped, Opened, FedTo};
 
 // A pixel's Morton number, and its levels: the size of the largest block that ends with it, which is as often as it can merge.
 pub struct Place {
@@ -94,6 +95,20 @@ fn put_next(
     }
 }
 
+// 23 and 24: whether a scan with `pixels` scanned has a next place, and a fed byte is an account.
+fn byte_check(order: u32, pixels: u32, account: u8) -> u32
+    requires { ⌜ order ≤ highestOrder ⌝ }
+    ensures { λ r. ⌜ r ≡ byteCheck order pixels account ⌝ }
+{
+    if pixels == tile::area(order) {
+        return refusal::SCAN_FULL;
+    }
+    if bed::Scan::HIGHEST_ACCOUNT < account {
+        return refusal::ACCOUNT_TOO_LARGE;
+    }
+    refusal::ACCEPTED
+}
+
 // Puts an account on the next place: 23, 24, 25. Nobody's changes nothing, so that its place is not computed.
 fn feed_pixel(
     slots: &mut [u32],
@@ -108,37 +123,29 @@ fn feed_pixel(
     requires { ⌜ (order ≤ highestOrder) × (pixels ≤ 4 ^ order) ⌝ }
     ensures { λ r. ⌜ Stepped kind order pixels account (now (slots .entry)) (now (slots .exit)) front back r ⌝ }
 {
-    if pixels == tile::area(order) {
+    let number = byte_check(order, pixels, account);
+    if number != refusal::ACCEPTED {
         return Step {
-            number: refusal::SCAN_FULL,
-            front,
-            back,
-        };
-    }
-    if bed::Scan::HIGHEST_ACCOUNT < account {
-        return Step {
-            number: refusal::ACCOUNT_TOO_LARGE,
+            number,
             front,
             back,
         };
     }
     if account == 0 {
         return Step {
-            number: refusal::ACCEPTED,
+            number,
             front,
             back,
         };
     }
     let put = put_next(slots, front, back, kind, order, pixels, account);
-    if put.full {
-        return Step {
-            number: refusal::SLOTS_EXCEEDED,
-            front: put.front,
-            back: put.back,
-        };
-    }
+    let number = if put.full {
+        refusal::SLOTS_EXCEEDED
+    } else {
+        refusal::ACCEPTED
+    };
     Step {
-        number: refusal::ACCEPTED,
+        number,
         front: put.front,
         back: put.back,
     }
