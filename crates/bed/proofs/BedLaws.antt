@@ -1,4 +1,5 @@
--- The plain bed goes by the accounts of its own pixels: rasters that agree on them give the same answers.
+-- Laws of the plain bed. It goes by the accounts of its own pixels: rasters that agree on them give the same answers.
+--     test-blockIn       the test of a block
 --     Agree n f g        f and g have the same accounts on the pixels of order n
 --     bedOf k n s f      the bed of kind k and order n with s pixels scanned and the raster f
 --     Good m n s f       what holds of a bed that a list in m slots shows: the order and s are in range, accounts too, and the blocks fit
@@ -15,16 +16,21 @@ use native.Mathlib.Omega.{arith}
 use lib.Dec.{ltb}
 use lib.ListN.{length}
 use Rattle.basics.specs.Choice.{if}
-use Rattle.basics.proofs.Tests.{Test, holds, fails, test-leb, test-eqb}
+use Rattle.basics.proofs.Tests.{Test, holds, fails, test-leb, test-eqb, test-and}
 use Rattle.refusal.specs.Refusal.{accepted, scanFull, accountTooLarge, slotsExceeded}
 use Rattle.tile.specs.Tile.{Tile, highestOrder, highestAccount}
-use Rattle.quadtree.specs.Raster.{paint}
+use Rattle.quadtree.specs.Raster.{Aligned, paint}
 use Rattle.quadtree.specs.Quadtree.{quadtree}
+use Rattle.quadtree.proofs.Alignment.{test-aligned}
 use Rattle.quadtree.proofs.Shown.{paint-in, paint-out}
 use Rattle.quadtree.proofs.ValidLaws.{quadtree-cong}
 use Rattle.bed.specs.declared.Kind.{Kind}
 use Rattle.bed.specs.Places.{pixelAt}
-use Rattle.bed.specs.Bed.{Bed, Fed, stopped, putPixel, feedPixels, claimed, claimCheck}
+use Rattle.bed.specs.Bed.{Bed, Fed, stopped, putPixel, feedPixels, blockIn, claimed, claimCheck}
+
+pub test-blockIn : (n c k : ℕ) → Test ((k ≤ n) × ((c < 4 ^ n) × Aligned k c)) (blockIn n c k)
+unfolding blockIn
+test-blockIn n c k = test-and (test-leb k n) (test-and (test-leb (suc c) (4 ^ n)) (test-aligned k c))
 
 abbrev pub Agree : ℕ → (ℕ → ℕ) → (ℕ → ℕ) → Type 0
 Agree n f g = (z : ℕ) → z < 4 ^ n → f z ≡ g z

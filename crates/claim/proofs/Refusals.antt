@@ -8,29 +8,25 @@
 use mathlib.Core.Path.{_≡_, _∙_, refl, sym}
 use mathlib.Core.Bool.{Bool, true, false}
 use mathlib.Core.List.{List}
-use Prim.Native.Nat.{ℕ, suc, _^_, _≤_, _<_}
+use Prim.Native.Nat.{ℕ, _≤_}
 use native.Mathlib.Omega.{arith}
 use lib.Dec.{leb}
 use lib.ListN.{length}
-use Rattle.basics.proofs.Tests.{Test, test-leb, test-and}
+use Rattle.basics.proofs.Tests.{test-leb}
 use Rattle.refusal.specs.Refusal.{accepted, accountTooLarge, slotsExceeded, blockInvalid}
 use Rattle.refusal.specs.Checks.{must, After}
 use Rattle.refusal.proofs.CheckLaws.{must-on, must-inv, else-on, else-off, unless-on, unless-off}
 use Rattle.tile.specs.Tile.{Tile, highestAccount}
 use Rattle.tile.specs.Slots.{tilesIn, filled}
-use Rattle.quadtree.specs.Raster.{Aligned, accountAt}
+use Rattle.quadtree.specs.Raster.{accountAt}
 use Rattle.quadtree.specs.Quadtree.{quadtree}
-use Rattle.quadtree.proofs.Alignment.{test-aligned}
 use Rattle.listcheck.specs.ListCheck.{listCheck}
 use Rattle.listcheck.proofs.Accepts.{listCheck-valid}
 use Rattle.bed.specs.Bed.{blockIn, claimed, claimCheck}
+use Rattle.bed.proofs.BedLaws.{test-blockIn}
 use Rattle.plan.specs.Plan.{Claimable}
 use Rattle.claim.specs.declared.Claimed.{Claimed}
 use Rattle.claim.specs.Claim.{claimRefusal, claimOf}
-
-pub test-blockIn : (n c k : ℕ) → Test ((k ≤ n) × ((c < 4 ^ n) × Aligned k c)) (blockIn n c k)
-unfolding blockIn
-test-blockIn n c k = test-and (test-leb k n) (test-and (test-leb (suc c) (4 ^ n)) (test-aligned k c))
 
 abbrev pub blockCheck : ℕ → ℕ → ℕ → ℕ → ℕ
 blockCheck n c k a = must (blockIn n c k) blockInvalid (must (leb a highestAccount) accountTooLarge accepted)

@@ -18,26 +18,12 @@ pub struct Claimed {
     pub tiles: usize,
 }
 
-// Is the block of a size at a corner a quadrant of a bed of the order?
-fn is_block(order: u32, corner: u32, size: u32) -> bool
-    requires { ⌜ order ≤ highestOrder ⌝ }
-    ensures { λ r. ⌜ r ≡ blockIn order corner size ⌝ }
-{
-    if order < size {
-        return false;
-    }
-    if tile::area(order) <= corner {
-        return false;
-    }
-    corner % tile::area(size) == 0
-}
-
 // The first of 32 and 24 that a claim breaks.
 fn block_check(order: u32, corner: u32, size: u32, account: u8) -> u32
     requires { ⌜ order ≤ highestOrder ⌝ }
     ensures { λ r. ⌜ r ≡ must (blockIn order corner size) blockInvalid (must (leb account highestAccount) accountTooLarge accepted) ⌝ }
 {
-    let block = is_block(order, corner, size);
+    let block = bed::is_block(order, corner, size);
     if !block {
         return refusal::BLOCK_INVALID;
     }

@@ -10,12 +10,11 @@
 --     sliceOf-cut      the part itself, cut out of the slots
 use mathlib.Core.Path.{_≡_, refl, sym, _∙_, ap}
 use mathlib.Core.List.{List, [], _∷_, List·Memᴰ·head, List·Memᴰ·tail}
-use Prim.Native.Nat.{ℕ, zero, suc, _+_, _-_, _^_, _≤_, _<_}
+use Prim.Native.Nat.{ℕ, suc, _+_, _-_, _^_, _≤_, _<_}
 use native.Mathlib.Decide.{decLt, decLe}
 use native.Mathlib.Omega.{arith}
 use lib.ListN.{length, take, drop, getD}
 use Rattle.basics.specs.Choice.{if}
-use Rattle.basics.proofs.Tests.{Test, test-leb, test-and}
 use Rattle.basics.proofs.ChoiceLaws.{if-yes, if-no}
 use Rattle.refusal.specs.Refusal.{accepted}
 use Rattle.refusal.proofs.CheckLaws.{must-inv, else-inv, unless-on, unless-off}
@@ -26,11 +25,11 @@ use Rattle.quadtree.specs.Raster.{Aligned, _∈_}
 use Rattle.quadtree.specs.Quadtree.{Rising, link}
 use Rattle.quadtree.specs.Valid.{Chain, Valid}
 use Rattle.quadtree.specs.Valid as valid
-use Rattle.quadtree.proofs.Alignment.{area-pos, area-mono, aligned-down, aligned-gap, aligned-nest, test-aligned}
+use Rattle.quadtree.proofs.Alignment.{area-pos, area-mono, aligned-down, aligned-gap, aligned-nest}
 use Rattle.quadtree.proofs.Tiling.{placed}
 use Rattle.quadtree.proofs.ValidLaws.{valid-tiling}
 use Rattle.listcheck.proofs.Accepts.{listCheck-valid}
-use Rattle.bed.specs.Bed.{blockIn}
+use Rattle.bed.proofs.BedLaws.{test-blockIn}
 use Rattle.reading.specs.declared.Part.{Part}
 use Rattle.reading.specs.Part.{isAhead, isInside, counted, partCheck, partOf, sliceOf}
 use Rattle.reading.proofs.CountLaws.{test-ahead, test-inside, counted-yes, counted-le, counted-none, rising-from, ahead-none, slot-past, slot-upto}
@@ -106,10 +105,6 @@ pub record Block (n t : ℕ) (slots : List ℕ) (c k : ℕ) : Type 0 where
   pub size : k ≤ n
   pub inside : c < 4 ^ n
   pub aligned : Aligned k c
-
-test-blockIn : (n c k : ℕ) → Test ((k ≤ n) × ((c < 4 ^ n) × Aligned k c)) (blockIn n c k)
-unfolding blockIn
-test-blockIn n c k = test-and (test-leb k n) (test-and (test-leb (suc c) (4 ^ n)) (test-aligned k c))
 
 pub partCheck-passed : (n t : ℕ) (slots : List ℕ) (c k : ℕ) → partCheck n t slots c k ≡ accepted → Block n t slots c k
 unfolding partCheck

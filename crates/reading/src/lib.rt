@@ -8,7 +8,6 @@ ghost use Rattle.tile.specs.Slots.{tilesIn};
 ghost use Rattle.quadtree.specs.Raster.{accountAt};
 ghost use Rattle.quadtree.specs.Quadtree.{Rising};
 ghost use Rattle.quadtree.specs.Valid.{Valid};
-ghost use Rattle.bed.specs.Bed.{blockIn};
 ghost use Rattle.reading.specs.Lookup.{lookupCheck, lookupOf};
 ghost use Rattle.reading.specs.Part.{isAhead, isInside, counted, partCheck, partOf, sliceOf};
 
@@ -88,17 +87,12 @@ pub fn lookup(order: u32, tiles: usize, slots: &[u32], column: u32, row: u32) ->
 pub fn part_check(order: u32, tiles: usize, slots: &[u32], corner: u32, size: u32) -> u32
     ensures { λ r. ⌜ r ≡ partCheck order tiles (now (slots .entry)) corner size ⌝ }
 {
-    let number = listcheck::check(order, tiles, slots);
-    if number != refusal::ACCEPTED {
-        return number;
+    let listed = listcheck::check(order, tiles, slots);
+    if listed != refusal::ACCEPTED {
+        return listed;
     }
-    if order < size {
-        return refusal::BLOCK_INVALID;
-    }
-    if tile::area(order) <= corner {
-        return refusal::BLOCK_INVALID;
-    }
-    if corner % tile::area(size) != 0 {
+    let block = bed::is_block(order, corner, size);
+    if !block {
         return refusal::BLOCK_INVALID;
     }
     refusal::ACCEPTED

@@ -5,9 +5,9 @@ use borrow.Author.Tests.{lt-leb, le-leb, lt-ltb, le-ltb}
 use borrow.Author.Needs.{needs}
 use Rattle.quadtree.specs.Raster.{aligned}
 use Rattle.quadtree.proofs.Alignment.{area-pos}
 use Rattle.bed.specs.Bed.{blockIn}
-use Rattle.claim.proofs.is_block.Statement.{statement}
-use Rattle.claim.proofs.is_block.Tie as tie
+use Rattle.bed.proofs.is_block.Statement.{statement}
+use Rattle.bed.proofs.is_block.Tie as tie
 
 returns : tie.Need-returns
 unfolding blockIn aligned
