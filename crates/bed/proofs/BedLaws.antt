@@ -7,6 +7,8 @@
 --     FedAlike           two feeds answer alike, and leave beds that agree and are good
 --     feedPixels-alike   feeds of beds that agree
 --     claimCheck-agree   claims on rasters that agree are refused alike
+--     Room m b           the linear quadtree of the bed b fits m slots
+--     feedPixels-room    a feed leaves a bed that fits the slots, if it was given one
 use mathlib.Core.Path.{_≡_, refl, ap, sym, _∙_}
 use mathlib.Core.Bool.{Bool}
 use mathlib.Core.List.{List, [], _∷_}
@@ -17,6 +19,7 @@ use lib.Dec.{ltb}
 use lib.ListN.{length}
 use Rattle.basics.specs.Choice.{if}
 use Rattle.basics.proofs.Tests.{Test, holds, fails, test-leb, test-eqb, test-and}
+use Rattle.basics.proofs.ChoiceLaws.{by-if}
 use Rattle.refusal.specs.Refusal.{accepted, scanFull, accountTooLarge, slotsExceeded}
 use Rattle.tile.specs.Tile.{Tile, highestOrder, highestAccount}
 use Rattle.quadtree.specs.Raster.{Aligned, paint}
@@ -117,3 +120,15 @@ module _ (m : ℕ) (k : Kind) (n : ℕ) where
 pub claimCheck-agree : (m n : ℕ) (f g : ℕ → ℕ) (c k a : ℕ) → Agree n f g → claimCheck m n f c k a ≡ claimCheck m n g c k a
 unfolding claimCheck
 claimCheck-agree m n f g c k a e = rw (quadtree-cong n (claimed f c k a) (claimed g c k a) (paint-agree n c (c + 4 ^ k) a e))
+
+abbrev pub Room : ℕ → Bed → Type 0
+Room m b = length (quadtree (b .order) (b .account)) ≤ m
+
+pub feedPixels-room : (m k : ℕ) (b : Bed) (bytes : List ℕ) → Room m b → Room m (feedPixels m k b bytes .bed)
+unfolding feedPixels putPixel
+feedPixels-room m k b [] h = h
+feedPixels-room m k b (a ∷ bytes) h =
+    by-if (λ (r : Fed). Room m (r .bed)) (test-eqb (b .scanned) (4 ^ b .order)) (λ full. h) (λ full.
+    by-if (λ (r : Fed). Room m (r .bed)) (test-leb (suc highestAccount) a) (λ high. h) (λ high.
+    by-if (λ (r : Fed). Room m (r .bed)) (test-leb (suc m) (length (quadtree (b .order) (putPixel b a .account)))) (λ over. h) (λ over.
+    feedPixels-room m (k + 1) (putPixel b a) bytes (omega arith))))

@@ -5,8 +5,8 @@
 --     filling-next               that tile filled
 --     filling-word               the next tile as the next word of the slots
 --     filling-end                no tile left
-use mathlib.Core.Path.{_≡_, sym, _∙_}
-use mathlib.Core.List.{List, [], _∷_, map}
+use mathlib.Core.Path.{_≡_, refl, sym, _∙_}
+use mathlib.Core.List.{List, [], _∷_, map, List·Memᴰ·head}
 use Prim.Native.Nat.{ℕ, _+_, _^_, _≤_, _<_}
 use native.Mathlib.Omega.{arith}
 use native.Mathlib.Decide.{decLt}
@@ -16,9 +16,10 @@ use lib.Seq.{drop-cons, drop-length, length-take-le, getD-take}
 use Rattle.tile.specs.Tile.{Tile, stop, tileOf}
 use Rattle.quadtree.specs.Raster.{accountAt, Quadrant}
 use Rattle.quadtree.specs.Valid.{Valid}
-use Rattle.quadtree.proofs.Alignment.{area-pos, size-le}
-use Rattle.quadtree.proofs.Tiling.{Tiling, none, next, tiling-le}
-use Rattle.quadtree.proofs.ValidLaws.{valid-tiling}
+use Rattle.quadtree.proofs.Alignment.{area-pos}
+use Rattle.quadtree.proofs.Tiling.{Tiling, none, next}
+use Rattle.quadtree.proofs.Chains.{chain-quadrant}
+use Rattle.quadtree.proofs.ValidLaws.{valid-tiling, tiling-chain}
 use Rattle.bed.specs.declared.Kind.the-variants.{Rows}
 use Rattle.bed.specs.Places.{placeOf, rows}
 use Rattle.bed.proofs.PlaceLaws.{placeOf-lt, rows-unique}
@@ -41,14 +42,8 @@ filling-start {n} v e r = record {
   long = r .long ∙ e;
 }
 
-first-quadrant : {n lo : ℕ} {f : ℕ → ℕ} {t : Tile} {ts : List Tile} → Tiling f (4 ^ n) lo (t ∷ ts) → Quadrant n t
-first-quadrant {n} {t = t} (next p r) =
-    let h = tiling-le r in
-    let g = area-pos (t .size) in
-    record { fits = size-le (t .size) n (omega arith); inside = omega arith; aligned = p .on .aligned; owned = p .on .owned }
-
 pub filling-first : {n : ℕ} {f : ℕ → ℕ} {t : Tile} {ts : List Tile} {xs : List ℕ} → Filling n f (t ∷ ts) xs → Quadrant n t
-filling-first g = first-quadrant (g .tiling)
+filling-first g = chain-quadrant (tiling-chain (g .tiling)) (List·Memᴰ·head refl)
 
 module _ {n : ℕ} {f : ℕ → ℕ} {xs : List ℕ} (long : length xs ≡ 4 ^ n) {lo : ℕ}
     (done : (z : ℕ) → z < 4 ^ n → z < lo → getD xs (placeOf Rows n z) 0 ≡ f z) (clear : (z : ℕ) → z < 4 ^ n → lo ≤ z → getD xs (placeOf Rows n z) 0 ≡ 0) where

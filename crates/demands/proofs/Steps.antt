@@ -22,9 +22,9 @@ use Rattle.tile.specs.Slots.{filled}
 use Rattle.tile.proofs.TileLaws.{tileOf-account}
 use Rattle.tile.proofs.SlotsLaws.{words-tiles}
 use Rattle.quadtree.specs.Raster.{accountAt, covers}
-use Rattle.quadtree.specs.Quadtree.{quadtree, single}
+use Rattle.quadtree.specs.Quadtree.{quadtree}
 use Rattle.quadtree.specs.Valid.{Valid}
-use Rattle.quadtree.proofs.Blocks.{blocks-uniform}
+use Rattle.quadtree.proofs.Blocks.{blank-quadtree}
 use Rattle.quadtree.proofs.ValidLaws.{quadtree-cong, valid-quadtree}
 use Rattle.bed.specs.declared.Kind.{Kind}
 use Rattle.bed.specs.declared.Kind.the-variants.{Rows}
@@ -47,10 +47,6 @@ pub record Agrees (m : ℕ) (p : Step) (q : PlainStep) : Type 0 where
   pub kept : Kept m (p .state) (q .bed)
 
 -- the empty bed
-blank-quadtree : (n : ℕ) → quadtree n (λ z. 0) ≡ []
-unfolding quadtree single
-blank-quadtree n = blocks-uniform (λ z. 0) 0 n 0 (λ z l h. refl)
-
 filled-none : (m : ℕ) → filled m [] ≡ replicate m 0
 unfolding filled
 filled-none m = let e : m - 0 ≡ m = omega arith in rw e

@@ -4,7 +4,7 @@
 --     listCheck-filled   a valid list that is left in slots is accepted from them
 use mathlib.Core.Path.{_≡_, refl}
 use mathlib.Core.Logic.{_↔_}
-use mathlib.Core.List.{List, [], _∷_, map, reverseAux, List·Memᴰ·head, List·Memᴰ·tail}
+use mathlib.Core.List.{List, [], _∷_, map, reverseAux}
 use Prim.Native.Nat.{ℕ, suc, _^_, _≤_, _<_}
 use native.Mathlib.Omega.{arith}
 use lib.ListN.{length, take}
@@ -15,10 +15,11 @@ use Rattle.tile.specs.Tile.{Tile, tileOf, wordLimit, highestOrder, highestAccou
 use Rattle.tile.specs.Slots.{tilesIn, filled}
 use Rattle.tile.proofs.TileLaws.{tileOf-corner-low}
 use Rattle.tile.proofs.SlotsLaws.{filled-length, tilesIn-filled}
-use Rattle.quadtree.specs.Raster.{Quadrant, _∈_}
+use Rattle.quadtree.specs.Raster.{_∈_}
 use Rattle.quadtree.specs.Valid.{Sound, Chain, end, link, Valid}
 use Rattle.quadtree.proofs.Alignment.{area-mono, test-aligned}
 use Rattle.quadtree.proofs.Siblings.{Four, NoFour, merged-no-four, no-four-merged}
+use Rattle.quadtree.proofs.ValidLaws.{valid-quadrant}
 use Rattle.listcheck.specs.ListCheck.{ended, tileCheck, wordCheck, wordsCheck, listCheck}
 use Rattle.listcheck.proofs.LastOfFour.{Last, test-last}
 
@@ -109,11 +110,7 @@ listCheck-valid n t slots = (
   λ v. must-pass orderTooLarge (test-leb n highestOrder) (v .0) (must-pass countAboveSlots (test-leb t (length slots)) (v .1) (wordsCheck-valid n (v .0) (take t slots) .1 (v .2))),
 )
 
-chain-quadrant : {n lo : ℕ} {t : Tile} {ts : List Tile} → Chain n lo ts → t ∈ ts → Quadrant n t
-chain-quadrant (link s r) (List·Memᴰ·head e) = rw e (s .quadrant)
-chain-quadrant (link s r) (List·Memᴰ·tail m) = chain-quadrant r m
-
 pub listCheck-filled : (n m : ℕ) (ts : List Tile) → n ≤ highestOrder → length ts ≤ m → ((t : Tile) → t ∈ ts → t .account ≤ highestAccount) → Valid n ts → listCheck n (length ts) (filled m ts) ≡ accepted
 listCheck-filled n m ts o l a v =
     listCheck-valid n (length ts) (filled m ts) .1
-    (o, omega (arith, filled-length m ts l), rw (tilesIn-filled m ts (λ t i. record { size = omega (arith, chain-quadrant (v .chain) i .fits); account = a t i })) v)
+    (o, omega (arith, filled-length m ts l), rw (tilesIn-filled m ts (λ t i. record { size = omega (arith, valid-quadrant v i .fits); account = a t i })) v)

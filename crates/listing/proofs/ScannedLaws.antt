@@ -1,71 +1,26 @@
 -- What a fresh row scan, fed once, leaves: the listing of it, and that its list fits the slots.
---     feedPixels-room    a feed leaves a bed whose linear quadtree fits the slots, if it was given one
---     freshOf-blank      a fresh scan has no tile
---     feedOf-room        a feed of a scan without tiles leaves a list that fits the slots
---     list-empty, list-large, list-scanned    the offered call, by how far its input is taken
-use mathlib.Core.Path.{_≡_, refl, ap, sym, _∙_}
+--     fed-room       its list fits the slots
+--     list-empty, list-large, list-scanned   the offered call, by how far its input is taken
+use mathlib.Core.Path.{_≡_, ap, sym, _∙_}
 use mathlib.Core.List.{List, [], _∷_}
-use Prim.Native.Nat.{ℕ, zero, suc, _+_, _-_, _^_, _≤_, _<_}
+use Prim.Native.Nat.{ℕ, suc, _-_, _≤_, _<_}
 use native.Mathlib.Omega.{arith}
-use lib.ListN.{length, take, drop, getD, replicate, length-replicate}
+use lib.ListN.{length, take, drop, getD, replicate}
 use lib.Seq.{take-all}
-use Rattle.basics.proofs.Tests.{test-leb, test-eqb}
-use Rattle.basics.proofs.ChoiceLaws.{if-yes, if-no, by-if}
+use Rattle.basics.proofs.Tests.{test-leb}
+use Rattle.basics.proofs.ChoiceLaws.{if-yes, if-no}
 use Rattle.refusal.specs.Refusal.{orderTooLarge, fileCutShort}
-use Rattle.refusal.specs.Checks.{unless, After}
-use Rattle.tile.specs.Tile.{highestAccount}
-use Rattle.tile.specs.Slots.{tilesIn}
-use Rattle.tile.proofs.SlotsLaws.{filled-length}
-use Rattle.quadtree.specs.Raster.{accountAt}
-use Rattle.quadtree.specs.Quadtree.{quadtree, single}
-use Rattle.quadtree.proofs.Blocks.{blocks-uniform}
+use Rattle.refusal.specs.Checks.{After}
 use Rattle.bed.specs.declared.Kind.{Kind}
 use Rattle.bed.specs.declared.Kind.the-variants.{Rows}
-use Rattle.bed.specs.declared.Scan.{Scan}
-use Rattle.bed.specs.Bed as bed
 use Rattle.scan.specs.declared.Fresh.{Fresh}
 use Rattle.scan.specs.declared.Fed.{Fed}
 use Rattle.scan.specs.FreshScan.{freshOf}
-use Rattle.scan.specs.Feed.{opening, fedTo, feedOf}
+use Rattle.scan.specs.Feed.{feedOf}
+use Rattle.scan.proofs.Feeds.{freshOf-blank, feedOf-room}
 use Rattle.listing.specs.Listing.{stopLine, listedOrder, listedSlots, fedListing, listing, listOf}
 use Rattle.listing.specs.Lent.{scanLines, listedIn}
 use Rattle.listing.proofs.LentLaws.{listOf-in}
-
-abbrev Room : ℕ → bed.Bed → Type 0
-Room m b = length (quadtree (b .order) (b .account)) ≤ m
-
-pub feedPixels-room : (m k : ℕ) (b : bed.Bed) (bytes : List ℕ) → Room m b → Room m (bed.feedPixels m k b bytes .bed)
-unfolding bed.feedPixels bed.putPixel
-feedPixels-room m k b [] h = h
-feedPixels-room m k b (a ∷ bytes) h =
-    by-if (λ (r : bed.Fed). Room m (r .bed)) (test-eqb (b .scanned) (4 ^ b .order)) (λ full. h) (λ full.
-    by-if (λ (r : bed.Fed). Room m (r .bed)) (test-leb (suc highestAccount) a) (λ high. h) (λ high.
-    by-if (λ (r : bed.Fed). Room m (r .bed)) (test-leb (suc m) (length (quadtree (b .order) (bed.putPixel b a .account)))) (λ over. h) (λ over.
-    feedPixels-room m (k + 1) (bed.putPixel b a) bytes (omega arith))))
-
--- a fact of what a call gives, refused or not
-by-unless : {A : Type 0} (Q : A → Type 0) (r : ℕ) {x : ℕ → A} {y : A} → ((n : ℕ) → Q (x n)) → Q y → Q (unless r x y)
-unfolding unless
-by-unless Q zero p q = q
-by-unless Q (suc r) p q = p (suc r)
-
-pub freshOf-blank : (k : Kind) (n : ℕ) (slots : List ℕ) → (freshOf k n slots .answer .scan .tiles ≡ 0) × (length (freshOf k n slots .storage) ≡ length slots)
-unfolding freshOf
-freshOf-blank k n slots = by-unless (λ (r : After Fresh). (r .answer .scan .tiles ≡ 0) × (length (r .storage) ≡ length slots)) _ (λ r. (refl, refl)) (refl, length-replicate (length slots) 0)
-
-blank : (n : ℕ) → quadtree n (λ z. 0) ≡ []
-unfolding quadtree single
-blank n = blocks-uniform (λ z. 0) 0 n 0 (λ z l h. refl)
-
-blank-room : (c : Scan) (slots : List ℕ) (m : ℕ) → c .tiles ≡ 0 → Room m (bed.shownBed c slots)
-unfolding tilesIn accountAt
-blank-room c slots m e = rw (e, blank (c .order)) (omega arith)
-
-pub feedOf-room : (c : Scan) (slots bytes : List ℕ) → c .tiles ≡ 0 → (feedOf c slots bytes .answer .scan .tiles ≤ length slots) × (length (feedOf c slots bytes .storage) ≡ length slots)
-unfolding feedOf fedTo
-feedOf-room c slots bytes e =
-    let h = feedPixels-room (length slots) 0 (bed.shownBed c slots) bytes (blank-room c slots (length slots) e) in
-    by-unless (λ (r : After Fed). (r .answer .scan .tiles ≤ length slots) × (length (r .storage) ≡ length slots)) (opening c slots) (λ r. (omega arith, refl)) (h, filled-length (length slots) _ h)
 
 module _ (k : Kind) (n : ℕ) (slots accounts : List ℕ) (f : Fresh) (half : List ℕ) (g : Fed) (left : List ℕ)
     (e : _≡_ {A = After Fresh} (record { answer = f; storage = half }) (freshOf k n slots)) (d : _≡_ {A = After Fed} (record { answer = g; storage = left }) (feedOf (f .scan) half accounts)) where

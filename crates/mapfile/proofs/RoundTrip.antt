@@ -20,12 +20,13 @@ use Rattle.tile.proofs.SlotsLaws.{tiles-words, length-tilesIn, filled-tilesIn}
 use Rattle.quadtree.specs.Raster.{_∈_}
 use Rattle.quadtree.specs.Valid.{Valid}
 use Rattle.quadtree.proofs.Alignment.{area-mono}
+use Rattle.quadtree.proofs.ValidLaws.{valid-quadrant, valid-length}
 use Rattle.listcheck.specs.ListCheck.{wordsCheck, listCheck}
 use Rattle.listcheck.proofs.Accepts.{wordsCheck-valid, listCheck-valid}
 use Rattle.items.specs.Items.{wordAt, wordsAt}
 use Rattle.items.proofs.ItemsLaws.{word-whole}
 use Rattle.roster.specs.Roster.{rosterOf}
-use Rattle.roster.proofs.CoveredLaws.{covered-fits, valid-length, valid-quadrant}
+use Rattle.roster.proofs.CoveredLaws.{covered-fits}
 use Rattle.roster.proofs.RosterLaws.{rosterOf-good, rosterOf-pixels}
 use Rattle.rostercheck.specs.RosterCheck.{rosterCheck}
 use Rattle.reader.specs.Reader.{tilesCheck, fileOrder, fileCount, fileCheck, readOf}

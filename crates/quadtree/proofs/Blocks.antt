@@ -5,15 +5,16 @@
 --     blocks-tiling           the blocks of an aligned quadrant tile it
 --     blocks-top              each is `Top` within the quadrant
 --     blocks-uniform, -mixed  the two cases of `blocks`
+--     blank-quadtree          nobody's bed has no tile
 use mathlib.Core.Path.{_≡_, refl, ap, sym, _∙_}
-use mathlib.Core.List.{List, List·Memᴰ·append-cases, List·Memᴰ·eq-of-singleton, List·Memᴰ·not-nil}
+use mathlib.Core.List.{List, [], List·Memᴰ·append-cases, List·Memᴰ·eq-of-singleton, List·Memᴰ·not-nil}
 use mathlib.Core.Logic.{inl, inr}
 use Prim.Native.Nat.{ℕ, zero, suc, _+_, _*_, _^_, _≤_, _<_}
 use native.Mathlib.Omega.{arith}
 use Rattle.basics.proofs.Tests.{Test, holds, test-eqb, test-and, test-map, by-test, choose-yes, choose-no}
 use Rattle.tile.specs.Tile.{Tile, tile}
 use Rattle.quadtree.specs.Raster.{Aligned, Uniform, uniform, _∈_}
-use Rattle.quadtree.specs.Quadtree.{single, four, blocks}
+use Rattle.quadtree.specs.Quadtree.{single, four, blocks, quadtree}
 use Rattle.quadtree.proofs.Alignment.{cmp, below, same, above, area-pos, aligned-down, aligned-next, aligned-quarter, aligned-nest}
 use Rattle.quadtree.proofs.Tiling.{Tiling, none, next, next-at, tiling-append, Placed, placed}
 
@@ -35,6 +36,10 @@ blocks-uniform f a (suc k) c u =
 pub blocks-mixed : (f : ℕ → ℕ) (k c : ℕ) → (Uniform f (f c) c (c + 4 ^ suc k) → ⊥) → blocks f (suc k) c ≡ four (λ x. blocks f k x) k c
 unfolding blocks
 blocks-mixed f k c u = choose-no (single c (suc k) (f c)) (four (λ x. blocks f k x) k c) (test-uniform f (f c) c (4 ^ suc k)) u
+
+pub blank-quadtree : (n : ℕ) → quadtree n (λ z. 0) ≡ []
+unfolding quadtree single
+blank-quadtree n = blocks-uniform (λ z. 0) 0 n 0 (λ z l h. refl)
 
 module _ (f : ℕ → ℕ) (P : ℕ → ℕ → List Tile → Type 0)
     (whole : (k c : ℕ) → Aligned k c → Uniform f (f c) c (c + 4 ^ k) → P k c (single c k (f c)))

@@ -13,8 +13,9 @@ use Rattle.basics.proofs.Tests.{test-leb, choose-yes, choose-no}
 use Rattle.tile.specs.Tile.{Tile, stop}
 use Rattle.quadtree.specs.Raster.{Aligned, Covers, Uniform, _∈_, Quadrant, Shows}
 use Rattle.quadtree.specs.Quadtree.{quadtree}
-use Rattle.quadtree.proofs.Alignment.{area-pos, aligned-down, aligned-gap, aligned-room}
+use Rattle.quadtree.proofs.Alignment.{area-pos, aligned-down, aligned-gap}
 use Rattle.quadtree.proofs.Tiling.{Tiling, none, next, tiling-le, on-corner}
+use Rattle.quadtree.proofs.Chains.{quadrant-stop}
 use Rattle.quadtree.proofs.Blocks.{Top}
 use Rattle.quadtree.proofs.Unique.{AllTop}
 use Rattle.quadtree.proofs.ValidLaws.{quadtree-tiling, quadtree-top}
@@ -76,7 +77,7 @@ module _ {n : ℕ} {f : ℕ → ℕ} {ts : List Tile} (shows : Shows n f ts) whe
       q = shows .quadrants t i
 
       inside : z < 4 ^ n
-      inside = omega (arith, aligned-room (q .fits) (q .aligned) (q .inside))
+      inside = omega (arith, quadrant-stop q)
 
   -- a tile on the corner of a largest block starts at that corner
   at-corner : {t u : Tile} → Top n f u → Aligned (u .size) (u .corner) → f (u .corner) ≡ u .account → t ∈ ts → Covers t (u .corner) → t .corner ≡ u .corner

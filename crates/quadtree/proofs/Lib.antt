@@ -2,6 +2,7 @@
 pub mod Alignment
 pub mod Tiling
 pub mod Shown
+pub mod Chains
 pub mod Blocks
 pub mod Siblings
 pub mod Unique

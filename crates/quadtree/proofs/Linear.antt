@@ -7,7 +7,7 @@
 use mathlib.Core.Path.{_≡_, refl, ap, sym, _∙_}
 use mathlib.Core.List.{List, _∷_, List·Memᴰ·head, List·Memᴰ·tail, List·Memᴰ·cases-cons, List·Memᴰ·not-nil, Memᴰ·cast}
 use mathlib.Core.Logic.{_⊎_, inl, inr}
-use Prim.Native.Nat.{ℕ, suc, _+_, _^_, _≤_, _<_}
+use Prim.Native.Nat.{ℕ, _+_, _^_, _≤_, _<_}
 use native.Mathlib.Decide.{decLt, decLe}
 use native.Mathlib.Omega.{arith}
 use Rattle.tile.specs.Tile.{Tile, stop}
@@ -16,6 +16,7 @@ use Rattle.quadtree.specs.Quadtree.{Largest, Rising, end, link, LinearQu
 use Rattle.quadtree.specs.Valid.{Valid}
 use Rattle.quadtree.proofs.Alignment.{Cmp, cmp, below, same, above, area-pos, aligned-gap, aligned-down, aligned-nest}
 use Rattle.quadtree.proofs.Tiling.{Tiling, none, next, placed}
+use Rattle.quadtree.proofs.Chains.{rising-down, rising-from}
 use Rattle.quadtree.proofs.ValidLaws.{quadtree-tiling, quadtree-top, valid-tiling, valid-quadtree}
 
 -- the tile on a somebody's pixel
@@ -61,20 +62,12 @@ largest-quadtree n f {t} b =
 -- a tiling goes by rising corner
 tiling-rising : {f : ℕ → ℕ} {hi lo : ℕ} {ts : List Tile} → Tiling f hi lo ts → Rising lo ts
 tiling-rising (none h b) = end
-tiling-rising (next {t = t} n r) = link (n .after) (sooner (4 ^ t .size) (t .corner) (area-pos (t .size)) (tiling-rising r))
-  where
-    sooner : (a x : ℕ) {us : List Tile} → 0 < a → Rising (x + a) us → Rising (suc x) us
-    sooner a x h end = end
-    sooner a x h (link {t = u} l r) = link {lo = suc x} {t = u} (omega arith) r
+tiling-rising (next {t = t} n r) = link (n .after) (rising-down (omega (arith, area-pos (t .size))) (tiling-rising r))
 
 pub quadtree-linear : (n : ℕ) (f : ℕ → ℕ) → LinearQuadtree n f (quadtree n f)
 quadtree-linear n f = record { rising = tiling-rising (quadtree-tiling n f); members = λ t. (quadtree-largest n f, largest-quadtree n f) }
 
 -- two rising lists of the same tiles are the same
-rising-from : {lo : ℕ} {t : Tile} {ts : List Tile} → Rising lo ts → t ∈ ts → lo ≤ t .corner
-rising-from (link h r) (List·Memᴰ·head e) = omega (arith, ap (λ (x : Tile). x .corner) e)
-rising-from (link h r) (List·Memᴰ·tail m) = omega (arith, rising-from r m)
-
 abbrev Sub : List Tile → List Tile → Type 0
 Sub ts us = (t : Tile) → t ∈ ts → t ∈ us
 

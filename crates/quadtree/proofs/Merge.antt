@@ -13,9 +13,9 @@ use Rattle.tile.specs.Tile.{Tile, tile, stop}
 use Rattle.quadtree.specs.Raster.{Aligned, Covers, Uniform, accountAt, paint, Quadrant}
 use Rattle.quadtree.specs.Quadtree.{quadtree}
 use Rattle.quadtree.specs.Valid.{Valid}
-use Rattle.quadtree.proofs.Alignment.{aligned-room}
 use Rattle.quadtree.proofs.Tiling.{Tiling, next, uniform-join, tiling-split, tiling-insert, tiling-cut, tiling-cong}
 use Rattle.quadtree.proofs.Shown.{paint-in, paint-out}
+use Rattle.quadtree.proofs.Chains.{quadrant-stop}
 use Rattle.quadtree.proofs.Siblings.{Siblings, Four, NoFour, no-four-left, no-four-right}
 use Rattle.quadtree.proofs.ValidLaws.{tiling-quadtree, valid-tiling, valid-no-four}
 use Rattle.quadtree.proofs.Change.{Fits}
@@ -104,7 +104,7 @@ places-quadtree {g} {n} (merge {h = h} {r = r} k v i j c p ea eb ij e m s) w na 
 
 -- a tile that fits into a valid list, merged and put there: the result is valid, shows the tile's account on it, and elsewhere what the list showed
 fits-between : {n : ℕ} {a b : List Tile} {t : Tile} → Valid n (a ++ b) → Fits n a b t → Between (paint (accountAt (a ++ b)) (t .corner) (stop t) (t .account)) n a b t
-fits-between {n} {a} {b} {t} v f = go (tiling-cut (t .corner) (stop t) (omega arith) (aligned-room (q .fits) (q .aligned) (q .inside)) (f .ahead) a (valid-tiling v) (omega arith) (f .behind))
+fits-between {n} {a} {b} {t} v f = go (tiling-cut (t .corner) (stop t) (omega arith) (quadrant-stop q) (f .ahead) a (valid-tiling v) (omega arith) (f .behind))
   where
     q : Quadrant n t
     q = f .quadrant

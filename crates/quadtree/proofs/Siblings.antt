@@ -15,6 +15,7 @@ use Rattle.tile.specs.Tile.{Tile, tile, stop}
 use Rattle.quadtree.specs.Raster.{Aligned, _∈_}
 use Rattle.quadtree.specs.Valid.{Chain, end, link, quarter, Merged}
 use Rattle.quadtree.proofs.Alignment.{area-pos}
+use Rattle.quadtree.proofs.Chains.{chain-from}
 
 abbrev pub Follows : Tile → Tile → Type 0
 Follows t u = u ≡ tile (stop t) (t .size) (t .account)
@@ -106,10 +107,6 @@ record Starts (n : ℕ) (x : Tile) (ts : List Tile) : Type 0 where
   rest : List Tile
   is : ts ≡ x ∷ rest
   chain : Chain n (stop x) rest
-
-pub chain-from : {n lo : ℕ} {t : Tile} {ts : List Tile} → Chain n lo ts → t ∈ ts → lo ≤ t .corner
-chain-from (link s r) (List·Memᴰ·head e) = omega (arith, ap (λ (x : Tile). x .corner) e, s .after)
-chain-from (link {t = u} s r) (List·Memᴰ·tail m) = omega (arith, chain-from r m, s .after, area-pos (u .size))
 
 starts : {n lo : ℕ} {x : Tile} {ts : List Tile} → Chain n lo ts → x ∈ ts → x .corner ≡ lo → Starts n x ts
 starts (link {ts = ts} s r) (List·Memᴰ·head e) h = record { rest = ts; is = ap (λ (y : Tile). y ∷ ts) (sym e); chain = rw e r }

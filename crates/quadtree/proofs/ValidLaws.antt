@@ -1,4 +1,5 @@
 -- Valid lists and linear quadtrees are the same lists. Every call's result is shown to be the linear quadtree by these laws.
+--     tiling-chain         a tiling of the bed is a chain
 --     chain-tiling         a chain tiles what it shows
 --     tiling-valid         a tiling of the bed without four siblings in a row is valid
 --     tiling-quadtree      and is the linear quadtree of its raster; tiling-blocks, the same of a quadrant
@@ -6,6 +7,8 @@
 --     quadtree-valid       and is valid
 --     quadtree-shown       what it shows is the raster again: the round trip
 --     quadtree-cong        it goes by the raster's accounts on the bed
+--     valid-quadrant       each tile of a valid list is a quadrant tile of the bed
+--     valid-length         it has no more tiles than its bed has pixels
 --     valid-quadtree       a valid list is the linear quadtree of the accounts that it shows
 --     valid-unique         two valid lists that show the same accounts are equal
 use mathlib.Core.Path.{_≡_, refl, sym, _∙_}
@@ -13,13 +16,15 @@ use mathlib.Core.List.{List, [], _∷_, List·Memᴰ·head, List·Memᴰ·tail}
 use Prim.Native.Nat.{ℕ, suc, _+_, _^_, _≤_, _<_}
 use native.Mathlib.Nat.{le-refl}
 use native.Mathlib.Omega.{arith}
+use lib.ListN.{length}
 use Rattle.tile.specs.Tile.{Tile, stop}
-use Rattle.quadtree.specs.Raster.{Aligned, Uniform, accountAt}
+use Rattle.quadtree.specs.Raster.{Aligned, Uniform, accountAt, Quadrant, _∈_}
 use Rattle.quadtree.specs.Quadtree.{blocks, quadtree}
 use Rattle.quadtree.specs.Valid.{Chain, end, link, Valid}
-use Rattle.quadtree.proofs.Alignment.{area-pos, size-le, aligned-zero, aligned-room}
+use Rattle.quadtree.proofs.Alignment.{area-pos, size-le, aligned-zero}
 use Rattle.quadtree.proofs.Tiling.{Tiling, none, next, tiling-le, tiling-cong, uniform-join}
 use Rattle.quadtree.proofs.Shown.{accountAt-first, accountAt-rest, accountAt-tiling}
+use Rattle.quadtree.proofs.Chains.{quadrant-stop, chain-quadrant, chain-before}
 use Rattle.quadtree.proofs.Blocks.{Top, blocks-tiling, blocks-top}
 use Rattle.quadtree.proofs.Siblings.{Siblings, Four, NoFour, siblings-stop, merged-no-four, no-four-merged}
 use Rattle.quadtree.proofs.Unique.{AllTop, one-form}
@@ -47,7 +52,7 @@ pub top-no-four : {n : ℕ} {f : ℕ → ℕ} {lo : ℕ} {ts : List Tile} → Ti
 top-no-four (none h b) big = tt
 top-no-four (next {t = t} {ts = ts} p r) big = (top-four ts (big t (List·Memᴰ·head refl)) (next p r), top-no-four r (λ v i. big v (List·Memᴰ·tail i)))
 
-tiling-chain : {n : ℕ} {f : ℕ → ℕ} {lo : ℕ} {ts : List Tile} → Tiling f (4 ^ n) lo ts → Chain n lo ts
+pub tiling-chain : {n : ℕ} {f : ℕ → ℕ} {lo : ℕ} {ts : List Tile} → Tiling f (4 ^ n) lo ts → Chain n lo ts
 tiling-chain (none h b) = end
 tiling-chain {n} (next {t = t} p r) =
     let h = tiling-le r in
@@ -57,18 +62,12 @@ tiling-chain {n} (next {t = t} p r) =
 pub tiling-valid : {n : ℕ} {f : ℕ → ℕ} {ts : List Tile} → Tiling f (4 ^ n) 0 ts → NoFour ts → Valid n ts
 tiling-valid r nf = let c = tiling-chain r in record { chain = c; merged = no-four-merged c nf }
 
--- a chain shows nothing ahead of its start, and tiles what it shows
-chain-before : {n lo : ℕ} {ts : List Tile} → Chain n lo ts → (z : ℕ) → z < lo → accountAt ts z ≡ 0
-unfolding accountAt
-chain-before end z l = refl
-chain-before (link {t = t} {ts = ts} p r) z l = accountAt-rest t ts z (λ c. omega (arith, c .0, p .after)) ∙ chain-before r z (omega (arith, p .after))
-
 pub chain-tiling : {n lo : ℕ} {ts : List Tile} (f : ℕ → ℕ) → Chain n lo ts → lo ≤ 4 ^ n → ((z : ℕ) → lo ≤ z → z < 4 ^ n → accountAt ts z ≡ f z) → Tiling f (4 ^ n) lo ts
 unfolding accountAt
 chain-tiling f end h e = none h (λ z l g. sym (e z l g))
 chain-tiling {n} f (link {t = t} {ts = ts} p r) h e =
     let pos = area-pos (t .size) in
-    let inn : stop t ≤ 4 ^ n = aligned-room (p .quadrant .fits) (p .quadrant .aligned) (p .quadrant .inside) in
+    let inn : stop t ≤ 4 ^ n = quadrant-stop (p .quadrant) in
     next
     (record {
       after = p .after;
@@ -79,6 +78,16 @@ chain-tiling {n} f (link {t = t} {ts = ts} p r) h e =
 
 pub valid-tiling : {n : ℕ} {ts : List Tile} → Valid n ts → Tiling (accountAt ts) (4 ^ n) 0 ts
 valid-tiling {n} {ts} v = chain-tiling (accountAt ts) (v .chain) (omega arith) (λ z l g. refl)
+
+pub valid-quadrant : {n : ℕ} {t : Tile} {ts : List Tile} → Valid n ts → t ∈ ts → Quadrant n t
+valid-quadrant v m = chain-quadrant (v .chain) m
+
+tiling-length : {f : ℕ → ℕ} {hi lo : ℕ} {ts : List Tile} → Tiling f hi lo ts → length ts + lo ≤ hi
+tiling-length (none h b) = omega arith
+tiling-length (next {t = t} n r) = omega (arith, tiling-length r, n .after, area-pos (t .size))
+
+pub valid-length : {n : ℕ} {ts : List Tile} → Valid n ts → length ts ≤ 4 ^ n
+valid-length v = omega (arith, tiling-length (valid-tiling v))
 
 pub tiling-blocks : (k c : ℕ) {ts : List Tile} (f : ℕ → ℕ) → Aligned k c → Tiling f (c + 4 ^ k) c ts → NoFour ts → ts ≡ blocks f k c
 tiling-blocks k c f m t nf = one-form f k c (c + 4 ^ k) (le-refl _) (le-refl c) t nf (blocks-tiling f k c m (c + 4 ^ k) refl) (blocks-top f k c m)

@@ -2,7 +2,6 @@
 --     test-ahead, test-inside      what the two tests of the definitions test
 --     counted-yes, counted-no      a count by what its test says of the first tile
 --     counted-none, counted-le     a count of none, and its bound
---     rising-from, rising-at       where the tiles of a list of rising corners start
 --     ahead-none                   no tile lies ahead of where the list starts
 --     ahead-past, ahead-upto       what the tile at i says of how many are ahead
 --     slot-past, slot-upto         what the tile in slot i says of it
@@ -22,6 +21,7 @@ use Rattle.tile.specs.Slots.{tilesIn}
 use Rattle.tile.proofs.SlotsLaws.{length-tilesIn}
 use Rattle.quadtree.specs.Raster.{_∈_}
 use Rattle.quadtree.specs.Quadtree.{Rising, end, link}
+use Rattle.quadtree.proofs.Chains.{rising-from, rising-at}
 use Rattle.search.specs.Cut.{Cut}
 use Rattle.reading.specs.Part.{isAhead, isInside, counted}
 use Rattle.tile.proofs.SlotTiles.{tilesIn-at}
@@ -55,15 +55,6 @@ module _ {g : Tile → Bool} {P : Tile → Type 0} (test : (u : Tile) → Test (
   unfolding counted
   counted-none [] out = refl
   counted-none (u ∷ us) out = omega (arith, if-no {A = ℕ} 1 0 (test u) (out u (List·Memᴰ·head refl)), counted-none us (λ v i. out v (List·Memᴰ·tail i)))
-
-pub rising-from : {lo : ℕ} {u : Tile} {us : List Tile} → Rising lo us → u ∈ us → lo ≤ u .corner
-rising-from {lo} (link h r) (List·Memᴰ·head e) = rw e h
-rising-from (link h r) (List·Memᴰ·tail i) = let g = rising-from r i in omega arith
-
-pub rising-at : {lo : ℕ} {us : List Tile} (d : Tile) (i : ℕ) → Rising lo us → i < length us → lo ≤ getD us i d .corner
-rising-at d i end l = absurd (omega arith)
-rising-at d zero (link h r) l = h
-rising-at d (suc i) (link h r) l = let g = rising-at d i r (omega arith) in omega arith
 
 pub ahead-none : {lo : ℕ} {us : List Tile} (c : ℕ) → Rising lo us → c ≤ lo → counted (isAhead c) us ≡ 0
 ahead-none {us = us} c r h = counted-none (test-ahead c) us (λ u i l. omega (arith, rising-from r i))

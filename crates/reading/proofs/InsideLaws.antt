@@ -2,7 +2,6 @@
 --     inside-le        those ahead of the block and those inside it are ahead of its stop
 --     inside-all       and no others, where each tile that starts in the block lies in it
 --     first-at         a tile stands behind all that start ahead of it
---     chain-apart      a tile that starts behind another starts where that one stops, or further on
 --     Block            what is known where quadrant part's checks are passed; partCheck-passed, they are passed only there
 --     to-le            a list has no more tiles ahead of a number than tiles
 --     inside-none, inside-large, inside-rest   how many tiles lie inside, by the tile at the part's position
@@ -23,18 +22,16 @@ use Rattle.tile.specs.Slots.{tilesIn}
 use Rattle.tile.proofs.SlotsLaws.{length-tilesIn}
 use Rattle.quadtree.specs.Raster.{Aligned, _∈_}
 use Rattle.quadtree.specs.Quadtree.{Rising, link}
-use Rattle.quadtree.specs.Valid.{Chain, Valid}
-use Rattle.quadtree.specs.Valid as valid
+use Rattle.quadtree.specs.Valid.{Valid}
 use Rattle.quadtree.proofs.Alignment.{area-pos, area-mono, aligned-down, aligned-gap, aligned-nest}
-use Rattle.quadtree.proofs.Tiling.{placed}
-use Rattle.quadtree.proofs.ValidLaws.{valid-tiling}
+use Rattle.quadtree.proofs.Chains.{rising-from, chain-rising, chain-apart}
+use Rattle.quadtree.proofs.ValidLaws.{valid-quadrant}
 use Rattle.listcheck.proofs.Accepts.{listCheck-valid}
 use Rattle.bed.proofs.BedLaws.{test-blockIn}
 use Rattle.reading.specs.declared.Part.{Part}
 use Rattle.reading.specs.Part.{isAhead, isInside, counted, partCheck, partOf, sliceOf}
-use Rattle.reading.proofs.CountLaws.{test-ahead, test-inside, counted-yes, counted-le, counted-none, rising-from, ahead-none, slot-past, slot-upto}
+use Rattle.reading.proofs.CountLaws.{test-ahead, test-inside, counted-yes, counted-le, counted-none, ahead-none, slot-past, slot-upto}
 use Rattle.tile.proofs.SlotTiles.{tilesIn-at, getD-in}
-use Rattle.reading.proofs.LookupLaws.{chain-rising}
 
 module _ (c k : ℕ) where
   -- one tile's part in the three counts
@@ -72,12 +69,6 @@ first-at d c (link {t = t} {ts = ts} h r) (List·Memᴰ·head e) q =
     rw (ahead-none c (link {lo = t .corner} {t = t} (omega arith) r) (omega arith)) (sym e)
 first-at d c (link {t = t} {ts = ts} h r) (List·Memᴰ·tail i) q = rw (counted-yes (test-ahead c) t ts (omega (arith, rising-from r i))) (first-at d c r i q)
 
-pub chain-apart : {n lo : ℕ} {u v : Tile} {us : List Tile} → Chain n lo us → u ∈ us → v ∈ us → u .corner < v .corner → stop u ≤ v .corner
-chain-apart (valid.link p r) (List·Memᴰ·head e) (List·Memᴰ·head g) h = absurd (omega (arith, ap (λ (x : Tile). x .corner) (e ∙ sym g)))
-chain-apart (valid.link p r) (List·Memᴰ·head e) (List·Memᴰ·tail j) h = omega (arith, ap stop e, rising-from (chain-rising r) j)
-chain-apart (valid.link {t = t} p r) (List·Memᴰ·tail i) (List·Memᴰ·head g) h = absurd (omega (arith, ap (λ (x : Tile). x .corner) g, rising-from (chain-rising r) i, area-pos (t .size)))
-chain-apart (valid.link p r) (List·Memᴰ·tail i) (List·Memᴰ·tail j) h = chain-apart r i j h
-
 -- a tile that starts in a block and is larger starts at its corner
 larger-corner : {j k x c : ℕ} → k ≤ j → Aligned j x → Aligned k c → c ≤ x → x < c + 4 ^ k → x ≡ c
 larger-corner {x = x} {c = c} h m n l g = elim (decLt c x) [ yes b ↦ absurd (omega (arith, aligned-gap n (aligned-down h m) b)) | no b ↦ omega arith ]
@@ -85,13 +76,13 @@ larger-corner {x = x} {c = c} h m n l g = elim (decLt c x) [ yes b ↦ absurd (o
 module _ {n : ℕ} {us : List Tile} (v : Valid n us) (c k : ℕ) (m : Aligned k c) (x : Tile) (at : getD us (counted (isAhead c) us) (tileOf 0) ≡ x) where
   lie-inside : x .size ≤ k → (u : Tile) → u ∈ us → c ≤ u .corner → u .corner < c + 4 ^ k → stop u ≤ c + 4 ^ k
   lie-inside small u i l g = elim (decLe (u .size) k) [
-    | yes s ↦ aligned-nest s (placed (valid-tiling v) i .on .aligned) m (omega (arith, area-pos (u .size))) g .1
-    | no s ↦ absurd (s (omega (arith, ap (λ (y : Tile). y .size) (sym at ∙ first-at (tileOf 0) c (chain-rising (v .chain)) i (larger-corner (omega arith) (placed (valid-tiling v) i .on .aligned) m l g)))))
+    | yes s ↦ aligned-nest s (valid-quadrant v i .aligned) m (omega (arith, area-pos (u .size))) g .1
+    | no s ↦ absurd (s (omega (arith, ap (λ (y : Tile). y .size) (sym at ∙ first-at (tileOf 0) c (chain-rising (v .chain)) i (larger-corner (omega arith) (valid-quadrant v i .aligned) m l g)))))
   ]
 
   none-inside : x ∈ us → c ≤ x .corner → x .corner < c + 4 ^ k → k < x .size → (u : Tile) → u ∈ us → (c ≤ u .corner) × (stop u ≤ c + 4 ^ k) → ⊥
   none-inside i l g big u j w =
-      let e = larger-corner (omega arith) (placed (valid-tiling v) i .on .aligned) m l g in
+      let e = larger-corner (omega arith) (valid-quadrant v i .aligned) m l g in
       let q : 4 ^ suc k ≤ 4 ^ x .size = area-mono big in
       elim (decLt c (u .corner)) [
         | yes b ↦ omega (arith, w .1, area-pos (u .size), area-pos k, chain-apart (v .chain) i j (omega arith))

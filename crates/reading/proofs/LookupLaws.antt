@@ -1,5 +1,4 @@
 -- Laws of lookup.
---     chain-rising            the corners of a chain rise
 --     shownBy us z i          what the last of the i tiles at the front of us shows at z
 --     accountAt-shownBy       where i tiles start by z, that is the account of the list
 --     test-pointIn            the test of check 31
@@ -29,11 +28,9 @@ use Rattle.tile.specs.Tile.{Tile, stop, tileOf, highestOrder}
 use Rattle.tile.specs.Slots.{tilesIn}
 use Rattle.tile.proofs.SlotsLaws.{length-tilesIn}
 use Rattle.quadtree.specs.Raster.{accountAt}
-use Rattle.quadtree.specs.Quadtree.{Rising}
-use Rattle.quadtree.specs.Quadtree as tree
 use Rattle.quadtree.specs.Valid.{Chain, end, link, Valid}
-use Rattle.quadtree.proofs.Alignment.{area-pos}
 use Rattle.quadtree.proofs.Shown.{accountAt-first, accountAt-rest}
+use Rattle.quadtree.proofs.Chains.{chain-rising, chain-before}
 use Rattle.listcheck.specs.ListCheck.{listCheck}
 use Rattle.listcheck.proofs.Accepts.{listCheck-valid}
 use Rattle.reading.specs.Lookup.{pointIn, lookupCheck, lookupOf}
@@ -41,25 +38,11 @@ use Rattle.reading.specs.Part.{isAhead, counted}
 use Rattle.reading.proofs.CountLaws.{test-ahead, counted-yes, counted-le, ahead-none}
 use Rattle.tile.proofs.SlotTiles.{tilesIn-at}
 
-rising-down : {lo hi : ℕ} {us : List Tile} → lo ≤ hi → Rising hi us → Rising lo us
-rising-down h tree.end = tree.end
-rising-down {lo} h (tree.link {t = t} p r) = tree.link {lo = lo} {t = t} (omega arith) r
-
-pub chain-rising : {n lo : ℕ} {us : List Tile} → Chain n lo us → Rising lo us
-chain-rising end = tree.end
-chain-rising (link {t = t} p r) = tree.link {t = t} (p .after) (rising-down (omega (arith, area-pos (t .size))) (chain-rising r))
-
 unfoldable pub shownBy : List Tile → ℕ → ℕ → ℕ
 shownBy us z zero = 0
 shownBy us z (suc j) = if (ltb z (stop (getD us j (tileOf 0)))) (getD us j (tileOf 0) .account) 0
 
 module _ {n : ℕ} (z : ℕ) where
-  -- nothing is shown before the chain starts
-  account-before : {lo : ℕ} {us : List Tile} → Chain n lo us → z < lo → accountAt us z ≡ 0
-  unfolding accountAt
-  account-before end l = refl
-  account-before (link {t = t} {ts = ts} p r) l = accountAt-rest t ts z (λ c. omega (arith, c .0, p .after)) ∙ account-before r (omega (arith, p .after))
-
   pub accountAt-shownBy : {lo : ℕ} {us : List Tile} → Chain n lo us → accountAt us z ≡ shownBy us z (counted (isAhead (z + 1)) us)
   unfolding accountAt counted shownBy
   accountAt-shownBy end = refl
@@ -76,7 +59,7 @@ module _ {n : ℕ} (z : ℕ) where
       go (yes b) ih = rw (counted-yes (test-ahead (z + 1)) t ts b) (first (counted (isAhead (z + 1)) ts) refl (omega arith) ih)
       go (no b) ih =
           let q : Chain n (t .corner) (t ∷ ts) = link {lo = t .corner} {t = t} (record { quadrant = p .quadrant; after = omega arith }) r in
-          rw (ahead-none (z + 1) (chain-rising q) (omega arith)) (account-before q (omega arith))
+          rw (ahead-none (z + 1) (chain-rising q) (omega arith)) (chain-before q z (omega arith))
 
 pub test-pointIn : (n c r : ℕ) → Test ((c < 2 ^ n) × (r < 2 ^ n)) (pointIn n c r)
 unfolding pointIn

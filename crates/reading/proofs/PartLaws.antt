@@ -21,11 +21,11 @@ use Rattle.tile.specs.Slots.{tilesIn}
 use Rattle.quadtree.specs.Raster.{_∈_}
 use Rattle.quadtree.specs.Valid.{Chain, end, link}
 use Rattle.quadtree.proofs.Alignment.{area-pos, area-mono}
+use Rattle.quadtree.proofs.Chains.{rising-from, chain-from, chain-rising, chain-apart}
 use Rattle.reading.specs.Part.{isAhead, isInside, counted, partCheck, partOf, sliceOf}
-use Rattle.reading.proofs.CountLaws.{test-ahead, test-inside, counted-yes, counted-no, counted-none, rising-from, ahead-none}
+use Rattle.reading.proofs.CountLaws.{test-ahead, test-inside, counted-yes, counted-no, counted-none, ahead-none}
 use Rattle.tile.proofs.SlotTiles.{tilesIn-part, tilesIn-front}
-use Rattle.reading.proofs.LookupLaws.{chain-rising}
-use Rattle.reading.proofs.InsideLaws.{Block, partCheck-passed, partOf-accepted, inside-le, first-at, chain-apart, to-le}
+use Rattle.reading.proofs.InsideLaws.{Block, partCheck-passed, partOf-accepted, inside-le, first-at, to-le}
 
 unfoldable pub kept : (Tile → Bool) → List Tile → List Tile
 kept g [] = []
@@ -104,7 +104,7 @@ module _ {n : ℕ} (c : ℕ) where
         where
           far : (u : Tile) → u ∈ (t ∷ ts) → (c ≤ u .corner) × (stop u ≤ c + 4 ^ k) → ⊥
           far u (List·Memᴰ·head e) i = omega (arith, ap stop e, i .1)
-          far u (List·Memᴰ·tail j) i = omega (arith, rising-from (chain-rising r) j, area-pos (u .size), i .1)
+          far u (List·Memᴰ·tail j) i = omega (arith, chain-from r j, area-pos (u .size), i .1)
 
 pub record PartInside (n t : ℕ) (slots : List ℕ) (c k : ℕ) : Type 0 where
   -- a tile is in the part just if it is in the list and wholly inside the quadrant

@@ -4,8 +4,6 @@
 --     covered-fits      nor than the largest bed has
 --     covered-some      the account of a tile covers some
 --     covered-none      an account without tiles covers none
---     valid-length      a valid list has no more tiles than its bed has pixels
---     valid-quadrant    each of its tiles is a quadrant of the bed
 use mathlib.Core.Path.{_≡_, refl, ap, sym, _∙_}
 use mathlib.Core.Bool.{Bool, true, false}
 use mathlib.Core.List.{List, [], _∷_, List·Memᴰ·head, List·Memᴰ·tail}
@@ -13,13 +11,12 @@ use Prim.Native.Nat.{ℕ, zero, suc, _+_, _-_, _^_, _≤_, _<_}
 use native.Mathlib.Nat.{add-zero, add-suc}
 use native.Mathlib.Omega.{arith}
 use lib.Dec.{eqb}
-use lib.ListN.{length}
 use Rattle.basics.specs.Choice.{if, count}
 use Rattle.basics.proofs.Tests.{test-eqb}
 use Rattle.basics.proofs.ChoiceLaws.{if-yes, if-no}
 use Rattle.tile.specs.Tile.{Tile, highestOrder}
-use Rattle.quadtree.specs.Raster.{Uniform, accountAt, Quadrant, _∈_}
-use Rattle.quadtree.specs.Valid.{Chain, link, Valid}
+use Rattle.quadtree.specs.Raster.{Uniform, accountAt, _∈_}
+use Rattle.quadtree.specs.Valid.{Valid}
 use Rattle.quadtree.proofs.Alignment.{area-pos, area-mono}
 use Rattle.quadtree.proofs.Tiling.{Tiling, none, next}
 use Rattle.quadtree.proofs.ValidLaws.{valid-tiling}
@@ -92,17 +89,3 @@ unfolding covered
 covered-none [] h = refl
 covered-none {a} (t ∷ ts) h =
     omega (arith, if-no (4 ^ t .size) 0 (test-eqb (t .account) a) (h t (List·Memᴰ·head refl)), covered-none {a = a} ts (λ u m. h u (List·Memᴰ·tail m)))
-
-tiling-length : {f : ℕ → ℕ} {hi lo : ℕ} {ts : List Tile} → Tiling f hi lo ts → length ts + lo ≤ hi
-tiling-length (none h b) = omega arith
-tiling-length (next {t = t} n r) = omega (arith, tiling-length r, n .after, area-pos (t .size))
-
-pub valid-length : {n : ℕ} {ts : List Tile} → Valid n ts → length ts ≤ 4 ^ n
-valid-length v = omega (arith, tiling-length (valid-tiling v))
-
-chain-quadrant : {n lo : ℕ} {t : Tile} {ts : List Tile} → Chain n lo ts → t ∈ ts → Quadrant n t
-chain-quadrant (link s r) (List·Memᴰ·head e) = rw e (s .quadrant)
-chain-quadrant (link s r) (List·Memᴰ·tail m) = chain-quadrant r m
-
-pub valid-quadrant : {n : ℕ} {t : Tile} {ts : List Tile} → Valid n ts → t ∈ ts → Quadrant n t
-valid-quadrant v m = chain-quadrant (v .chain) m

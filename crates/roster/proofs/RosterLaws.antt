@@ -23,8 +23,9 @@ use Rattle.basics.proofs.ChoiceLaws.{if-yes, if-no, by-if}
 use Rattle.tile.specs.Tile.{Tile, highestAccount}
 use Rattle.quadtree.specs.Raster.{_∈_}
 use Rattle.quadtree.specs.Valid.{Valid}
+use Rattle.quadtree.proofs.ValidLaws.{valid-quadrant}
 use Rattle.roster.specs.Roster.{covered, Entry, rosterFrom, rosterOf, listed, entryGood, entriesGood, tilesListed, rosterGood}
-use Rattle.roster.proofs.CoveredLaws.{covered-some, covered-none, valid-quadrant}
+use Rattle.roster.proofs.CoveredLaws.{covered-some, covered-none}
 
 pub data ByAccount : ℕ → List Entry → Type 0 where
   end : {lo : ℕ} → ByAccount lo []

@@ -1,26 +1,34 @@
--- A feed whole: its answer and its slots.
---     feed-refused   an opening check refuses
---     feed-done      the accounts were fed, and the gap is closed
-use mathlib.Core.Path.{_≡_, _∙_, ap, sym}
+-- A feed whole, and a fresh scan: the answer and the slots.
+--     feed-refused    an opening check refuses
+--     feed-done       the accounts were fed, and the gap is closed
+--     freshOf-blank   a fresh scan has no tile
+--     feedOf-room     a feed of a scan without tiles leaves a list that fits the slots
+use mathlib.Core.Path.{_≡_, _∙_, refl, ap, sym}
 use mathlib.Core.List.{List, _++_}
-use Prim.Native.Nat.{ℕ, _+_, _-_}
+use Prim.Native.Nat.{ℕ, _+_, _-_, _≤_}
 use native.Mathlib.Omega.{arith}
-use lib.ListN.{length, replicate}
+use lib.ListN.{length, replicate, length-replicate}
 use Rattle.refusal.specs.Refusal.{accepted}
 use Rattle.refusal.specs.Checks.{After}
-use Rattle.refusal.proofs.CheckLaws.{unless-on, unless-off}
+use Rattle.refusal.proofs.CheckLaws.{unless-on, unless-off, by-unless}
 use Rattle.tile.specs.Tile.{Tile}
-use Rattle.tile.specs.Slots.{filled}
-use Rattle.tile.proofs.SlotsLaws.{words-tiles}
+use Rattle.tile.specs.Slots.{tilesIn, filled}
+use Rattle.tile.proofs.SlotsLaws.{words-tiles, filled-length}
+use Rattle.quadtree.specs.Raster.{accountAt}
 use Rattle.quadtree.specs.Quadtree.{quadtree}
+use Rattle.quadtree.proofs.Blocks.{blank-quadtree}
+use Rattle.bed.specs.declared.Kind.{Kind}
 use Rattle.bed.specs.declared.Scan.{Scan}
 use Rattle.bed.specs.Bed as bed
+use Rattle.bed.proofs.BedLaws.{Room, feedPixels-room}
 use Rattle.merging.specs.Merging.{tiles}
 use Rattle.gap.specs.Gap.{held}
 use Rattle.gap.proofs.Parts.{held-length}
 use Rattle.feeding.specs.Feeding.{FedTo}
 use Rattle.feeding.specs.declared.Run.{Run}
+use Rattle.scan.specs.FreshScan.{freshOf}
 use Rattle.scan.specs.Feed.{opening, fedTo, feedOf}
+use Rattle.scan.specs.declared.Fresh.{Fresh}
 use Rattle.scan.specs.declared.Fed.{Fed}
 
 module _ (c : Scan) (slots bytes : List ℕ) where
@@ -51,3 +59,17 @@ module _ (c : Scan) (slots bytes : List ℕ) where
     feed-done e =
         (λ i. record { answer = record { number = fed .number i; taken = fed .taken i; scan = record { kind = fed .kind i; order = fed .order i; pixels = fed .pixels i; tiles = count i } }; storage = left i })
         ∙ sym (unless-on (opening c slots) _ (fedTo (length slots) plain) e)
+
+pub freshOf-blank : (k : Kind) (n : ℕ) (slots : List ℕ) → (freshOf k n slots .answer .scan .tiles ≡ 0) × (length (freshOf k n slots .storage) ≡ length slots)
+unfolding freshOf
+freshOf-blank k n slots = by-unless (λ (r : After Fresh). (r .answer .scan .tiles ≡ 0) × (length (r .storage) ≡ length slots)) _ (λ r. (refl, refl)) (refl, length-replicate (length slots) 0)
+
+blank-room : (c : Scan) (slots : List ℕ) (m : ℕ) → c .tiles ≡ 0 → Room m (bed.shownBed c slots)
+unfolding tilesIn accountAt
+blank-room c slots m e = rw (e, blank-quadtree (c .order)) (omega arith)
+
+pub feedOf-room : (c : Scan) (slots bytes : List ℕ) → c .tiles ≡ 0 → (feedOf c slots bytes .answer .scan .tiles ≤ length slots) × (length (feedOf c slots bytes .storage) ≡ length slots)
+unfolding feedOf fedTo
+feedOf-room c slots bytes e =
+    let h = feedPixels-room (length slots) 0 (bed.shownBed c slots) bytes (blank-room c slots (length slots) e) in
+    by-unless (λ (r : After Fed). (r .answer .scan .tiles ≤ length slots) × (length (r .storage) ≡ length slots)) (opening c slots) (λ r. (omega arith, refl)) (h, filled-length (length slots) _ h)

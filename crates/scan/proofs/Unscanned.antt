@@ -3,19 +3,18 @@
 --     place-fits                 it fits a word
 --     unscanned-last             a tile covers a pixel that is not scanned just if its last pixel is none
 --     word-quadrant              the words of a valid list are quadrant tiles
---     quadrant-stop              and end in the bed
 --     covers-found, covers-on    one word of the list decides, or the words behind it do
 --     covers-none                no word is left
 --     covers-blank               where no tile covers a pixel that is not scanned, these are nobody's
 use mathlib.Core.Path.{_≡_, _∙_, refl, ap}
 use mathlib.Core.Bool.{Bool, true, false, _||_}
 use mathlib.Core.List.{List, [], _∷_}
-use Prim.Native.Nat.{ℕ, zero, suc, _+_, _-_, _*_, _%_, _^_, _≤_, _<_}
+use Prim.Native.Nat.{ℕ, suc, _+_, _-_, _*_, _%_, _^_, _≤_, _<_}
 use native.Mathlib.Numerals.{add-one}
 use native.Mathlib.Decide.{decLt}
 use native.Mathlib.Omega.{arith}
 use lib.Dec.{leb}
-use lib.ListN.{length, take, drop, getD, length-map, List·getD-map, drop-of-length-le}
+use lib.ListN.{length, take, drop, getD, drop-of-length-le}
 use lib.Seq.{drop-cons, getD-take, length-take-le}
 use Rattle.basics.proofs.Tests.{Test, test-leb, test-not, test-alike, told-false}
 use Rattle.basics.proofs.ChoiceLaws.{Some, test-some}
@@ -23,10 +22,13 @@ use Rattle.morton.specs.Morton.{column, row, sideBits}
 use Rattle.morton.proofs.MortonLaws.{column-wide, row-wide}
 use Rattle.tile.specs.Tile.{Tile, stop, tileOf, highestOrder}
 use Rattle.tile.specs.Slots.{tilesIn}
+use Rattle.tile.proofs.SlotTiles.{tilesIn-in}
 use Rattle.quadtree.specs.Raster.{accountAt, Quadrant}
-use Rattle.quadtree.specs.Valid.{Chain, end, link, Valid}
-use Rattle.quadtree.proofs.Alignment.{area-pos, area-mono, aligned-room}
+use Rattle.quadtree.specs.Valid.{Valid}
+use Rattle.quadtree.proofs.Alignment.{area-pos, area-mono}
 use Rattle.quadtree.proofs.Shown.{accountAt-rest}
+use Rattle.quadtree.proofs.Chains.{quadrant-stop}
+use Rattle.quadtree.proofs.ValidLaws.{valid-quadrant}
 use Rattle.bed.specs.declared.Kind.{Kind}
 use Rattle.bed.specs.declared.Kind.the-variants.{Rows, Morton}
 use Rattle.bed.specs.declared.Scan.{Scan}
@@ -65,9 +67,6 @@ pub place-morton : (k : Kind) (n z : ℕ) → k ≡ Morton → z ≡ placeOf k n
 unfolding placeOf
 place-morton k n z e = rw e
 
-pub quadrant-stop : {n : ℕ} {t : Tile} → Quadrant n t → stop t ≤ 4 ^ n
-quadrant-stop q = aligned-room (q .fits) (q .aligned) (q .inside)
-
 test-unscanned : (k : Kind) (n s : ℕ) (t : Tile) → Test (Some (λ z. placeOf k n z < s → ⊥) (t .corner) (4 ^ t .size)) (unscannedIn k n s t)
 unfolding scanned
 test-unscanned k n s t = test-some (λ z. test-not (test-leb (suc (placeOf k n z)) s)) (t .corner) (4 ^ t .size)
@@ -82,18 +81,9 @@ unscanned-last k n s t q = test-alike (test-leb s (placeOf k n (stop t - 1))) (t
           elim (decLt (placeOf k n (w .0)) s) [ yes g ↦ absurd (w .3 g) | no g ↦ omega (arith, ap (placeOf k n) e) ]
     ])
 
-chain-at : {n lo : ℕ} {ts : List Tile} (d : Tile) → Chain n lo ts → (i : ℕ) → i < length ts → Quadrant n (getD ts i d)
-chain-at d end i h = absurd (omega arith)
-chain-at d (link p r) zero h = p .quadrant
-chain-at d (link p r) (suc i) h = chain-at d r i (omega arith)
-
 module _ (slots : List ℕ) (t i : ℕ) (h : i < t) (l : t ≤ length slots) where
   pub word-quadrant : {n : ℕ} → Valid n (tilesIn t slots) → Quadrant n (tileOf (getD slots i 0))
-  unfolding tilesIn
-  word-quadrant v =
-      let m : length (tiles (take t slots)) ≡ t = length-map (take t slots) tileOf ∙ length-take-le t slots l in
-      let e : getD (tiles (take t slots)) i (tileOf 0) ≡ tileOf (getD slots i 0) = List·getD-map tileOf (take t slots) i 0 ∙ ap tileOf (getD-take t slots i 0 h) in
-      rw e at (chain-at (tileOf 0) (v .chain) i (omega arith))
+  word-quadrant v = valid-quadrant v (tilesIn-in t slots i h l)
 
   split : drop i (take t slots) ≡ getD slots i 0 ∷ drop (i + 1) (take t slots)
   split = rw (add-one i) (drop-cons (take t slots) i 0 (rw (length-take-le t slots l) h) ∙ rw (getD-take t slots i 0 h))

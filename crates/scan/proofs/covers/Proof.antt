@@ -1,7 +1,8 @@
 -- The last pixel decides: `unscanned-last`.
-use Rattle.scan.proofs.Unscanned.{unscanned-last, quadrant-stop}
+use Rattle.scan.proofs.Unscanned.{unscanned-last}
 use Rattle.bed.specs.Places.{placeOf}
 use Rattle.quadtree.proofs.Alignment.{area-pos}
+use Rattle.quadtree.proofs.Chains.{quadrant-stop}
 use Rattle.tile.specs.Tile.{stop, tileOf}
 use lib.Dec.{leb}
 use mathlib.Core.Path.{_≡_, _∙_, ap}
