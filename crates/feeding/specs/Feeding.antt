@@ -2,7 +2,6 @@
 --     AtPlace k n s p             p is the pixel with s places before its own in the scan of kind k and order n, with its levels
 --     Trails k s i b p            in Morton order no word lies behind the gap, and the tiles start ahead of the pixel p
 --     bedOf k n s f               the plain bed of kind k and order n with s pixels scanned and the raster f
---     byteCheck n s a             23 and 24 of the byte a, fed to a scan of order n with s pixels scanned
 --     pixelCheck m b a            23, 24 and 25 of the account a on the next place of the bed b, with m slots
 --     Holds k n s f ts            ts is the list of this bed, and what is not scanned is nobody's
 --     SteppedOn m b a r ts us     r is what the checks say of a on the bed b; if they accept it, us is the list of the bed with it, else ts again
@@ -42,9 +41,6 @@ Trails k s i b p = k ≡ Morton → (b ≡ length s) × Low s i p
 
 abbrev pub bedOf : Kind → ℕ → ℕ → (ℕ → ℕ) → bed.Bed
 bedOf k n s f = record { order = n; kind = k; scanned = s; account = f }
-
-unfoldable pub byteCheck : ℕ → ℕ → ℕ → ℕ
-byteCheck n s a = if (eqb s (4 ^ n)) scanFull (if (ltb highestAccount a) accountTooLarge accepted)
 
 unfoldable pub pixelCheck : ℕ → bed.Bed → ℕ → ℕ
 pixelCheck m b a =

@@ -8,7 +8,7 @@ ghost use Rattle.bed.specs.Places.{pixelAt};
 ghost use Rattle.bed.specs.Bed.{shownBed, feedPixels};
 ghost use Rattle.merging.specs.Merging.{Levels};
 ghost use Rattle.gap.specs.Gap.{Fits, Placed};
-ghost use Rattle.feeding.specs.Feeding.{AtPlace, Trails, byteCheck, Stepped, Opened, FedTo};
+ghost use Rattle.feeding.specs.Feeding.{AtPlace, Trails, Stepped, Opened, FedTo};
 
 // A pixel's Morton number, and its levels: the size of the largest block that ends with it, which is as often as it can merge.
 pub struct Place {
@@ -95,18 +95,15 @@ fn put_next(
     }
 }
 
-// 23 and 24: whether a scan with `pixels` scanned has a next place, and a fed byte is an account.
-fn byte_check(order: u32, pixels: u32, account: u8) -> u32
-    requires { ⌜ order ≤ highestOrder ⌝ }
-    ensures { λ r. ⌜ r ≡ byteCheck order pixels account ⌝ }
+// What an account leaves, as a record.
+fn leaves(number: u32, front: usize, back: usize) -> Step
+    ensures { λ r. ⌜ r ≡ record { number = number; front = front; back = back } ⌝ }
 {
-    if pixels == tile::area(order) {
-        return refusal::SCAN_FULL;
+    Step {
+        number,
+        front,
+        back,
     }
-    if bed::Scan::HIGHEST_ACCOUNT < account {
-        return refusal::ACCOUNT_TOO_LARGE;
-    }
-    refusal::ACCEPTED
 }
 
 // Puts an account on the next place: 23, 24, 25. Nobody's changes nothing, so that its place is not computed.
@@ -123,32 +120,20 @@ fn feed_pixel(
     requires { ⌜ (order ≤ highestOrder) × (pixels ≤ 4 ^ order) ⌝ }
     ensures { λ r. ⌜ Stepped kind order pixels account (now (slots .entry)) (now (slots .exit)) front back r ⌝ }
 {
-    let number = byte_check(order, pixels, account);
-    if number != refusal::ACCEPTED {
-        return Step {
-            number,
-            front,
-            back,
-        };
+    if pixels == tile::area(order) {
+        return leaves(refusal::SCAN_FULL, front, back);
+    }
+    if bed::Scan::HIGHEST_ACCOUNT < account {
+        return leaves(refusal::ACCOUNT_TOO_LARGE, front, back);
     }
     if account == 0 {
-        return Step {
-            number,
-            front,
-            back,
-        };
+        return leaves(refusal::ACCEPTED, front, back);
     }
     let put = put_next(slots, front, back, kind, order, pixels, account);
-    let number = if put.full {
-        refusal::SLOTS_EXCEEDED
-    } else {
-        refusal::ACCEPTED
-    };
-    Step {
-        number,
-        front: put.front,
-        back: put.back,
+    if put.full {
+        return leaves(refusal::SLOTS_EXCEEDED, put.front, put.back);
     }
+    leaves(refusal::ACCEPTED, put.front, put.back)
 }
 
 // Feeds the accounts in turn to a list that passed the opening checks, up to the first that is refused.
