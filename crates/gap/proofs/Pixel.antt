@@ -10,8 +10,8 @@ use native.Mathlib.Nat.{mul-le-mul-right}
 use native.Mathlib.Decide.{decLt}
 use native.Mathlib.Omega.{arith}
 use lib.Dec.{ltb}
-use lib.ListN.{length, take, drop, getD, length-append, length-map, length-drop, take-append-drop, drop-of-length-le}
-use lib.Seq.{take-suc, drop-cons, length-take-le, take-take}
+use lib.ListN.{length, take, drop, getD, length-append, length-map, length-drop, drop-of-length-le}
+use lib.Seq.{slice, take-suc, drop-cons, length-take-le}
 use borrow.Author.Tests.{lt-ltb, le-ltb}
 use Rattle.tile.specs.Tile.{Tile, tile, stop, tileOf}
 use Rattle.quadtree.specs.Raster.{_∈_}
@@ -28,7 +28,7 @@ use Rattle.merging.specs.declared.Top.{Top}
 use Rattle.gap.specs.Gap.{held, Fits, Awaits, dotted, PlacedOn, Placed, Pushed, Low, High, Moved}
 use Rattle.gap.specs.declared.Gap.{Gap}
 use Rattle.gap.specs.declared.Front.{Front}
-use Rattle.gap.proofs.Parts.{held-tiles, held-length}
+use Rattle.gap.proofs.Parts.{held-tiles, held-length, front-pieces}
 
 pub awaits-free : {n : ℕ} {f : ℕ → ℕ} {z : ℕ} {ts : List Tile} → Awaits n f z ts → f z ≡ 0
 awaits-free {n} {f} {z} w = let e : z + 4 ^ 0 - 1 ≡ z = omega arith in rw e at (w .last 0 z (aligned-unit z) (omega arith) (omega arith) (omega (arith, w .inside)))
@@ -70,10 +70,7 @@ over-end k z p j r h g room e =
     record { stops = q; starts = omega (arith, area-pos k); on = omega (arith, area-pos k) }
 
 no-four-first : (s : List ℕ) (i j : ℕ) → j ≤ i → NoFour (tiles (take i s)) → NoFour (tiles (take j s))
-no-four-first s i j h nf = no-four-left (tiles (take j s)) (tiles (drop j (take i s))) (rw (← map-append tileOf (take j s) (drop j (take i s))) (rw (← first) at nf))
-  where
-    first : take j s ++ drop j (take i s) ≡ take i s
-    first = ap (λ (l : List ℕ). l ++ drop j (take i s)) (sym (take-take j i s h)) ∙ take-append-drop j (take i s)
+no-four-first s i j h nf = no-four-left (tiles (take j s)) (tiles (slice j i s)) (rw (← map-append tileOf (take j s) (slice j i s)) (rw (← front-pieces s j i h) at nf))
 
 -- the list cut at the pixel
 module _ {n : ℕ} {f : ℕ → ℕ} {z : ℕ} (s : List ℕ) (i b : ℕ) (within : i ≤ length s) (low : Low s i z) (high : High s b z) (w : Awaits n f z (tiles (take i s) ++ tiles (drop b s))) where

@@ -3,29 +3,20 @@
 --     retreated   the end of the front part goes to the back part
 --     advanced    the start of the back part goes to the front part
 use mathlib.Core.Path.{_≡_, _∙_, refl, ap, sym}
-use mathlib.Core.List.{List, [], _∷_, _++_, append-assoc}
-use Prim.Native.Nat.{ℕ, suc, _+_, _-_, _≤_, _<_}
+use mathlib.Core.List.{List, _++_, append-assoc}
+use Prim.Native.Nat.{ℕ, _+_, _-_, _≤_, _<_}
 use native.Mathlib.Decide.{decLt}
 use native.Mathlib.Nat.{add-zero}
 use native.Mathlib.Omega.{arith}
-use lib.ListN.{length, take, drop, getD, length-append, take-append-drop}
-use lib.Seq.{slice, slice-cons, length-slice, length-take-le, take-take, take-append-le, take-at, drop-at, drop-drop, drop-append-le, getD-take, getD-drop, getD-append-add}
+use lib.ListN.{length, take, drop, getD, length-append}
+use lib.Seq.{slice, slice-cons, length-slice, length-take-le, take-take, take-append-le, take-at, drop-at, drop-drop, getD-take, getD-drop, getD-append-add}
 use Rattle.tile.specs.Tile.{tileOf}
 use Rattle.search.specs.Cut.{Cut}
 use Rattle.gap.specs.Gap.{held, Fits, Low, High, Moved}
-use Rattle.gap.specs.declared.Gap.{Gap}
+use Rattle.gap.proofs.Parts.{front-pieces, back-pieces}
 
 pub stayed : (s : List ℕ) (i b z : ℕ) → Fits s i b → Low s i z → High s b z → Moved s s i b z (record { front = i; back = b })
 stayed s i b z fit low high = record { fits = fit; held = refl; low = low; high = high }
-
--- a part of the list cut in two
-front-pieces : (s : List ℕ) (j i : ℕ) → j ≤ i → take j s ++ slice j i s ≡ take i s
-front-pieces s j i h = ap (λ (l : List ℕ). l ++ slice j i s) (sym (take-take j i s h)) ∙ take-append-drop j (take i s)
-
-back-pieces : (s : List ℕ) (b j : ℕ) → b ≤ j → j ≤ length s → slice b j s ++ drop j s ≡ drop b s
-back-pieces s b j h g =
-    let l : length (take j s) ≡ j = length-take-le j s g in
-    sym (drop-append-le b (take j s) (drop j s) (omega arith)) ∙ ap (drop b) (take-append-drop j s)
 
 head-drop : (s : List ℕ) (j : ℕ) → getD (drop j s) 0 0 ≡ getD s j 0
 head-drop s j = getD-drop j s 0 0 ∙ rw (add-zero j)

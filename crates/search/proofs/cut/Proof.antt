@@ -1,10 +1,9 @@
 -- Binary search: the tile ahead of `low` starts below z, and that at `high` does not.
-use Rattle.search.specs.Cut.{Cut}
 use Rattle.tile.specs.Tile.{tileOf}
 use mathlib.Core.Path.{_≡_}
 use Prim.Native.Nat.{_/_, _+_, _-_, _≤_, _<_}
 use native.Mathlib.Omega.{arith}
-use lib.ListN.{length, getD}
+use lib.ListN.{getD}
 use borrow.Author.Needs.{needs}
 use Rattle.search.proofs.cut.Statement.{statement}
 use Rattle.search.proofs.cut.Tie as tie
