@@ -14,6 +14,7 @@ use lib.ListN.{length, take, drop, getD, length-append, length-map, length-drop,
 use lib.Seq.{slice, take-suc, drop-cons, length-take-le}
 use borrow.Author.Tests.{lt-ltb, le-ltb}
 use Rattle.tile.specs.Tile.{Tile, tile, stop, tileOf}
+use Rattle.moves.proofs.Moves.{front-pieces}
 use Rattle.quadtree.specs.Raster.{_∈_}
 use Rattle.quadtree.specs.Quadtree.{quadtree}
 use Rattle.quadtree.proofs.Alignment.{cmp, below, same, above, area-pos, aligned-unit, aligned-next}
@@ -28,7 +29,7 @@ use Rattle.merging.specs.declared.Top.{Top}
 use Rattle.gap.specs.Gap.{held, Fits, Awaits, dotted, PlacedOn, Placed, Pushed, Low, High, Moved}
 use Rattle.gap.specs.declared.Gap.{Gap}
 use Rattle.gap.specs.declared.Front.{Front}
-use Rattle.gap.proofs.Parts.{held-tiles, held-length, front-pieces}
+use Rattle.gap.proofs.Parts.{held-tiles, held-length}
 
 pub awaits-free : {n : ℕ} {f : ℕ → ℕ} {z : ℕ} {ts : List Tile} → Awaits n f z ts → f z ≡ 0
 awaits-free {n} {f} {z} w = let e : z + 4 ^ 0 - 1 ≡ z = omega arith in rw e at (w .last 0 z (aligned-unit z) (omega arith) (omega arith) (omega (arith, w .inside)))

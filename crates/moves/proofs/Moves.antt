@@ -1,12 +1,25 @@
 -- The stores of a loop that moves words, as equations between lists.
-use mathlib.Core.Path.{_≡_, _∙_}
+--     front-pieces, back-pieces    the front of a list, or its tail, cut in two
+--     fill-step, fill-all          words cleared, one more and all of them
+--     up-none, up-step             words moved up, from the last one on
+--     down-none, down-step         words moved down, from the first one on
+--     cleared                      a part to the end that was cleared, put back
+use mathlib.Core.Path.{_≡_, _∙_, ap, sym}
 use Prim.Native.Nat.{ℕ, zero, suc, _+_, _-_, _≤_, _<_}
 use mathlib.Core.List.{List, [], _∷_, _++_, append-assoc, append-nil}
 use native.Mathlib.Omega.{arith}
 use native.Mathlib.Numerals.{add-one}
 use lib.ListN.{length, take, drop, getD, set, replicate, length-append, length-drop, take-append-drop, List·getD-append, drop-of-length-le}
-use lib.Seq.{slice, slice-cons, slice-empty, length-slice, take-suc, drop-cons, drop-append-le, getD-take, getD-drop, getD-append-add, set-at, length-take-le, drop-length}
+use lib.Seq.{slice, slice-cons, slice-empty, length-slice, take-suc, drop-cons, drop-append-le, take-take, getD-take, getD-drop, getD-append-add, set-at, length-take-le, drop-length}
 use borrow.Author.Fill.{fill-more}
+
+pub front-pieces : (s : List ℕ) (j i : ℕ) → j ≤ i → take j s ++ slice j i s ≡ take i s
+front-pieces s j i h = ap (λ (l : List ℕ). l ++ slice j i s) (sym (take-take j i s h)) ∙ take-append-drop j (take i s)
+
+pub back-pieces : (s : List ℕ) (b j : ℕ) → b ≤ j → j ≤ length s → slice b j s ++ drop j s ≡ drop b s
+back-pieces s b j h g =
+    let l : length (take j s) ≡ j = length-take-le j s g in
+    sym (drop-append-le b (take j s) (drop j s) (omega arith)) ∙ ap (drop b) (take-append-drop j s)
 
 pub fill-step : (t s : List ℕ) (i : ℕ) → t ≡ replicate i 0 ++ drop i s → i < length s → set t i 0 ≡ replicate (i + 1) 0 ++ drop (i + 1) s
 fill-step t s i e h = rw e (fill-more i 0 s h)

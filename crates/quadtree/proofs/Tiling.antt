@@ -1,6 +1,6 @@
 -- Laws of tilings, the relation that carries a raster through every proof.
 --     Placed f hi lo t           where a tile of such a list lies
---     tiling-blank, -append, -split, -extend   tilings put together and taken apart
+--     tiling-blank, -append, -split   tilings put together and taken apart
 --     tiling-cut                 a tiling cut where no tile lies
 --     tiling-cong                a tiling goes by what the raster is from lo up to hi
 use mathlib.Core.Path.{_≡_, refl, _∙_}
@@ -38,9 +38,6 @@ tiling-blank {lo = x} h b (next {t = t} n r) = next {lo = x} {t = t} (record { a
 pub tiling-append : {f : ℕ → ℕ} {hi mid lo : ℕ} {ts us : List Tile} → Tiling f mid lo ts → Tiling f hi mid us → Tiling f hi lo (ts ++ us)
 tiling-append (none h b) s = tiling-blank h b s
 tiling-append (next n r) s = next n (tiling-append r s)
-
-pub tiling-extend : {f : ℕ → ℕ} {mid hi lo : ℕ} {ts : List Tile} → mid ≤ hi → Uniform f 0 mid hi → Tiling f mid lo ts → Tiling f hi lo ts
-tiling-extend {ts = ts} h b t = rw (append-nil ts) at (tiling-append t (none h b))
 
 -- a tile put between two tilings, and a tiling taken apart at a tile
 pub tiling-insert : {f : ℕ → ℕ} {hi lo : ℕ} {a b : List Tile} {t : Tile} → Tiling f (t .corner) lo a → On f t → Tiling f hi (stop t) b → Tiling f hi lo (a ++ t ∷ b)

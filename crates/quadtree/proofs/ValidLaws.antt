@@ -2,7 +2,7 @@
 --     tiling-chain         a tiling of the bed is a chain
 --     chain-tiling         a chain tiles what it shows
 --     tiling-valid         a tiling of the bed without four siblings in a row is valid
---     tiling-quadtree      and is the linear quadtree of its raster; tiling-blocks, the same of a quadrant
+--     tiling-quadtree      and is the linear quadtree of its raster
 --     quadtree-tiling      the linear quadtree tiles its raster
 --     quadtree-valid       and is valid
 --     quadtree-shown       what it shows is the raster again: the round trip
@@ -88,9 +88,6 @@ tiling-length (next {t = t} n r) = omega (arith, tiling-length r, n .after, area
 
 pub valid-length : {n : ℕ} {ts : List Tile} → Valid n ts → length ts ≤ 4 ^ n
 valid-length v = omega (arith, tiling-length (valid-tiling v))
-
-pub tiling-blocks : (k c : ℕ) {ts : List Tile} (f : ℕ → ℕ) → Aligned k c → Tiling f (c + 4 ^ k) c ts → NoFour ts → ts ≡ blocks f k c
-tiling-blocks k c f m t nf = one-form f k c (c + 4 ^ k) (le-refl _) (le-refl c) t nf (blocks-tiling f k c m (c + 4 ^ k) refl) (blocks-top f k c m)
 
 pub quadtree-tiling : (n : ℕ) (f : ℕ → ℕ) → Tiling f (4 ^ n) 0 (quadtree n f)
 unfolding quadtree

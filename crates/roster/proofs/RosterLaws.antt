@@ -1,5 +1,5 @@
 -- Laws of the roster that the writer lists.
---     rosterFrom-yes, -no   an account with tiles has its entry, one without has none
+--     rosterFrom-yes        an account with tiles has its entry
 --     ByAccount lo es       the accounts of the entries es rise strictly, from lo on
 --     rosterOf-rising       the roster is by rising account
 --     rosterOf-good         it is the roster of its tiles
@@ -39,10 +39,6 @@ module _ (ts : List Tile) where
   pub rosterFrom-yes : (a k : ℕ) → 0 < covered a ts → rosterFrom ts a (suc k) ≡ record { account = a; pixels = covered a ts } ∷ rosterFrom ts (suc a) k
   unfolding rosterFrom
   rosterFrom-yes a k h = if-yes _ _ (test-leb 1 (covered a ts)) h
-
-  pub rosterFrom-no : (a k : ℕ) → covered a ts ≡ 0 → rosterFrom ts a (suc k) ≡ rosterFrom ts (suc a) k
-  unfolding rosterFrom
-  rosterFrom-no a k h = if-no _ _ (test-leb 1 (covered a ts)) (λ l. omega arith)
 
   -- a fact of the roster, account by account
   by-account : (Q : List Entry → Type 0) (a k : ℕ) → (0 < covered a ts → Q (record { account = a; pixels = covered a ts } ∷ rosterFrom ts (suc a) k)) → (covered a ts ≡ 0 → Q (rosterFrom ts (suc a) k)) → Q (rosterFrom ts a (suc k))

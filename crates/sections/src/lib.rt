@@ -76,8 +76,8 @@ fn tiled(tiles: usize, slots: &[u32]) -> u64
 }
 
 // How many accounts have tiles: the members of their set, from the lowest account on.
-pub fn accounts(order: u32, tiles: usize, slots: &[u32]) -> usize
-    requires { ⌜ (order ≤ highestOrder) × (tiles ≤ length (now slots)) × Valid order (tilesIn tiles (now slots)) ⌝ }
+pub fn accounts(tiles: usize, slots: &[u32]) -> usize
+    requires { ⌜ tiles ≤ length (now slots) ⌝ }
     ensures { λ r. ⌜ r ≡ length (rosterOf (tilesIn tiles (now (slots .entry)))) ⌝ }
 {
     let set = tiled(tiles, slots);

@@ -7,6 +7,7 @@ use Prim.Native.Nat.{ℕ, _+_, _-_, _≤_}
 use native.Mathlib.Omega.{arith}
 use lib.ListN.{length, take, drop, take-append-drop}
 use lib.Seq.{slice, length-slice, take-at, drop-at, take-take, take-append-le, length-take-le}
+use Rattle.moves.proofs.Moves.{front-pieces}
 use Rattle.stores.specs.Stores.{Opened}
 
 pub opened : (s t z : List ℕ) (x y lo hi count m : ℕ) → t ≡ take x s ++ slice y count s ++ z → x ≡ lo + m → y ≡ hi → hi ≤ count → count ≤ length s → lo + m ≤ length s → Opened s t lo hi count m
@@ -23,5 +24,4 @@ opened s t z x y lo hi count m e ex ey h l r = record {
 
 pub opened-already : (s : List ℕ) (lo hi count m : ℕ) → hi ≡ lo + m → hi ≤ count → count ≤ length s → Opened s s lo hi count m
 opened-already s lo hi count m e h l =
-    let p : take hi s ++ slice hi count s ≡ take count s = rw (← take-take hi count s h) (take-append-drop hi (take count s)) in
-    opened s s (drop count s) hi hi lo hi count m (rw p (sym (take-append-drop count s))) e refl h l (omega arith)
+    opened s s (drop count s) hi hi lo hi count m (rw (front-pieces s hi count h) (sym (take-append-drop count s))) e refl h l (omega arith)

@@ -4,7 +4,6 @@
 --     tile-word           a packable tile is the tile of its word
 --     tileOf-size         the size of a word's tile is below 16
 --     tileOf-account      the account of a word's tile is at most the highest
---     tileOf-packable     both
 --     tileOf-corner-low   a word whose corner lies in the largest bed is below the limit
 --     wordOf-low          the word of a packable tile in the largest bed is below the limit
 use mathlib.Core.Path.{_≡_}
@@ -40,9 +39,6 @@ tileOf-size w = omega arith
 pub tileOf-account : (w : ℕ) → tileOf w .account ≤ highestAccount
 unfolding tileOf
 tileOf-account w = omega arith
-
-pub tileOf-packable : (w : ℕ) → Packable (tileOf w)
-tileOf-packable w = record { size = tileOf-size w; account = tileOf-account w }
 
 pub tileOf-corner-low : (w : ℕ) → tileOf w .corner < 4 ^ highestOrder → w < wordLimit
 unfolding tileOf

@@ -38,7 +38,7 @@ pub fn write(order: u32, tiles: usize, slots: &[u32], file: &mut [u8]) -> Writte
     if number != refusal::ACCEPTED {
         return Written { number, length: 0 };
     }
-    let accounts = sections::accounts(order, tiles, slots);
+    let accounts = sections::accounts(tiles, slots);
     let length = 6 + 4 * tiles + 5 * accounts;
     if file.len() < length {
         return Written {

@@ -1,3 +1,4 @@
+-- The words cleared so far, and those left as they were.
 use Rattle.moves.proofs.Moves.{fill-step, fill-all}
 use mathlib.Core.Path.{_≡_}
 use Prim.Native.Nat.{_-_, _≤_}

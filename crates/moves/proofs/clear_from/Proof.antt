@@ -1,3 +1,4 @@
+-- A part to the end, cleared and put back: `cleared`.
 use Rattle.moves.proofs.Moves.{cleared}
 use native.Mathlib.Omega.{arith}
 use borrow.Author.Needs.{needs}

@@ -1,3 +1,4 @@
+-- The words moved down so far, and those not yet reached.
 use Rattle.moves.proofs.Moves.{down-none, down-step}
 use lib.Seq.{slice}
 use mathlib.Core.Path.{_≡_}

@@ -1,3 +1,4 @@
+-- The words moved up so far, from the last one on.
 use Rattle.moves.proofs.Moves.{up-none, up-step}
 use lib.Seq.{slice}
 use mathlib.Core.Path.{_≡_}

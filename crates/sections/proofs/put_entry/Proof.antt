@@ -1,11 +1,10 @@
+-- An account without pixels stores nothing, one with pixels its entry.
 use lib.ListN.{length-set}
 use Rattle.sections.proofs.Passes.{entryOf-length, entry-none, entry-one}
 use native.Mathlib.Omega.{arith}
 use borrow.Author.Needs.{needs}
 use Rattle.sections.proofs.put_entry.Statement.{statement}
 use Rattle.sections.proofs.put_entry.Tie as tie
-
--- An account without pixels stores nothing, one with pixels its entry.
 
 returns : tie.Need-returns
 returns c = entry-none (c .before .before .args .file .now) (c .before .before .args .p) (c .before .before .args .account) (c .before .before .args .pixels) (c .if1 .taken)

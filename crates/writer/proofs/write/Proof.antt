@@ -1,3 +1,4 @@
+-- A refusal leaves before any store; what list checking accepts is valid, so that its length fits and its file is the definition's.
 use mathlib.Core.Path.{sym, _∙_}
 use Rattle.tile.specs.Slots.{tilesIn}
 use Rattle.listcheck.proofs.Accepts.{listCheck-valid}
@@ -8,13 +9,11 @@ use borrow.Author.Needs.{needs}
 use Rattle.writer.proofs.write.Statement.{statement}
 use Rattle.writer.proofs.write.Tie as tie
 
--- A refusal leaves before any store; what list checking accepts is valid, so that its length fits and its file is the definition's.
-
 returns : tie.Need-returns
 returns c = writeOf-refused _ _ _ _ _ (c .before .check .ensures) (c .if1 .taken)
 
 accounts-requires : tie.Need-accounts-requires
-accounts-requires c κs = listCheck-valid _ _ _ .0 (sym (c .before .check .ensures) ∙ c .if1 .left)
+accounts-requires c κs = listCheck-valid _ _ _ .0 (sym (c .before .check .ensures) ∙ c .if1 .left) .1
 
 mul-length : tie.Need-mul-length
 mul-length c =
