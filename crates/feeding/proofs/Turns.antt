@@ -19,9 +19,8 @@ use Rattle.tile.specs.Slots.{tilesIn}
 use Rattle.tile.proofs.SlotTiles.{tilesIn-in}
 use Rattle.quadtree.specs.Raster.{accountAt}
 use Rattle.quadtree.specs.Quadtree.{quadtree}
-use Rattle.quadtree.proofs.Alignment.{area-pos}
-use Rattle.quadtree.proofs.Tiling.{placed}
-use Rattle.quadtree.proofs.ValidLaws.{valid-quadtree, valid-tiling}
+use Rattle.quadtree.proofs.Tiling.{on-corner, placed}
+use Rattle.quadtree.proofs.ValidLaws.{valid-quadrant, valid-quadtree, valid-tiling}
 use Rattle.bed.specs.declared.Kind.the-variants.{Morton}
 use Rattle.bed.specs.declared.Scan.{Scan}
 use Rattle.bed.specs.Places.{placeOf}
@@ -83,11 +82,11 @@ last-scanned : (c : Scan) (slots : List ℕ) → Opened c slots → c .kind ≡ 
 unfolding placeOf
 last-scanned c slots o e h =
     let u = tileOf (getD slots (c .tiles - 1) 0) in
-    let p = placed (valid-tiling (o .valid)) (tilesIn-in (c .tiles) slots (c .tiles - 1) (omega arith) (o .count)) in
-    let pos = area-pos (u .size) in
+    let m = tilesIn-in (c .tiles) slots (c .tiles - 1) (omega arith) (o .count) in
+    let q = valid-quadrant (o .valid) m in
     elim (decLt (u .corner) (c .pixels)) [
       | yes l ↦ l
-      | no l ↦ absurd (omega (arith, p .on .owned, p .on .uniform (u .corner) (omega arith) (omega arith), o .blank (u .corner) (omega (arith, p .upto)) (rw e (omega arith))))
+      | no l ↦ absurd (omega (arith, q .owned, on-corner (placed (valid-tiling (o .valid)) m .on), o .blank (u .corner) (q .inside) (rw e (omega arith))))
     ]
 
 pub feeding-start : (c : Scan) (slots bytes : List ℕ) → Opened c slots → Feeding c slots bytes 0 (c .pixels) slots (c .tiles) (length slots)

@@ -95,12 +95,12 @@ fn put_next(
     }
 }
 
-// What an account leaves, as a record.
-fn leaves(number: u32, front: usize, back: usize) -> Step
-    ensures { λ r. ⌜ r ≡ record { number = number; front = front; back = back } ⌝ }
+// What an account leaves, by what its checks say.
+fn leaves(said: u32, front: usize, back: usize) -> Step
+    ensures { λ r. ⌜ r ≡ record { number = said; front = front; back = back } ⌝ }
 {
     Step {
-        number,
+        number: said,
         front,
         back,
     }

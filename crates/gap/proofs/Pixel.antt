@@ -28,7 +28,7 @@ use Rattle.merging.specs.Merging.{tiles, upTo, Merged}
 use Rattle.merging.specs.declared.Top.{Top}
 use Rattle.gap.specs.Gap.{held, Fits, Awaits, dotted, PlacedOn, Placed, Pushed, Low, High, Moved}
 use Rattle.gap.specs.declared.Gap.{Gap}
-use Rattle.gap.specs.declared.Front.{Front}
+use Rattle.gap.specs.declared.Outcome.{Outcome}
 use Rattle.gap.proofs.Parts.{held-tiles, held-length}
 
 pub awaits-free : {n : ℕ} {f : ℕ → ℕ} {z : ℕ} {ts : List Tile} → Awaits n f z ts → f z ≡ 0
@@ -164,7 +164,7 @@ placed-nobody s i b z a fit e = record {
 ltb-shift : (m b x y : ℕ) → b ≤ m → y ≡ x + (m - b) → ltb b x ≡ ltb m y
 ltb-shift m b x y h e = elim (decLt b x) [ yes l ↦ lt-ltb b x l ∙ sym (lt-ltb m y (omega arith)) | no l ↦ le-ltb b x (omega arith) ∙ sym (le-ltb m y (omega arith)) ]
 
-module _ (s t u : List ℕ) (i b z a : ℕ) (g : Gap) (p : Front) (pos : 0 < a) (st : length t ≡ length s) (tu : length u ≡ length t)
+module _ (s t u : List ℕ) (i b z a : ℕ) (g : Gap) (p : Outcome) (pos : 0 < a) (st : length t ≡ length s) (tu : length u ≡ length t)
     (moved : Moved s t i b z g) (pushed : Pushed t u (g .front) (g .back) z a p) where
   abbrev list : List Tile
   list = tiles (held s i b)
@@ -172,10 +172,10 @@ module _ (s t u : List ℕ) (i b z a : ℕ) (g : Gap) (p : Front) (pos : 0 < a) 
   split : list ≡ tiles (take (g .front) t) ++ tiles (drop (g .back) t)
   split = ap tiles (sym (moved .held)) ∙ held-tiles t (g .front) (g .back)
 
-  after : tiles (held u (p .front) (g .back)) ≡ tiles (take (p .front) u) ++ tiles (drop (g .back) t)
-  after = held-tiles u (p .front) (g .back) ∙ rw (pushed .back)
+  after : tiles (held u (p .front) (p .back)) ≡ tiles (take (p .front) u) ++ tiles (drop (g .back) t)
+  after = rw (pushed .there) (held-tiles u (p .front) (g .back) ∙ rw (pushed .back))
 
-  on : (n : ℕ) (f : ℕ → ℕ) → Awaits n f z list → PlacedOn n (length s) (dotted f z a) list (tiles (held u (p .front) (g .back))) (p .full)
+  on : (n : ℕ) (f : ℕ → ℕ) → Awaits n f z list → PlacedOn n (length s) (dotted f z a) list (tiles (held u (p .front) (p .back))) (p .full)
   on n f w =
       let fit = moved .fits in
       let within : g .front ≤ length t = omega (arith, fit) in
@@ -188,5 +188,5 @@ module _ (s t u : List ℕ) (i b z a : ℕ) (g : Gap) (p : Front) (pos : 0 < a) 
         kept = λ r. after ∙ rw (pushed .kept r) (sym split);
       }
 
-  pub placed-pushed : Placed s u i b z a (record { full = p .full; front = p .front; back = g .back })
-  placed-pushed = record { fits = (pushed .fits, omega (arith, moved .fits)); on = on }
+  pub placed-pushed : Placed s u i b z a p
+  placed-pushed = record { fits = rw (pushed .there) (pushed .fits, omega (arith, moved .fits)); on = on }

@@ -19,11 +19,12 @@ use Rattle.merging.proofs.SiblingWords.{true-false}
 use Rattle.gap.specs.Gap.{Pushed}
 
 module _ {s : List ℕ} {i z a : ℕ} {m : Top} (merged : Merged s i z a m) (b : ℕ) (h : i ≤ b) (g : b ≤ length s) where
-  pub pushed-full : m .at ≡ b → Pushed s s i b z a (record { full = true; front = i })
+  pub pushed-full : m .at ≡ b → Pushed s s i b z a (record { full = true; front = i; back = b })
   pushed-full e = record {
     top = m;
     merged = merged;
     fits = h;
+    there = refl;
     back = refl;
     full = sym (lt-ltb b (m .at + 1) (omega arith));
     done = λ r. absurd (true-false r);
@@ -31,7 +32,7 @@ module _ {s : List ℕ} {i z a : ℕ} {m : Top} (merged : Merged s i z a m) (b :
     low = λ l h. omega (arith, l h);
   }
 
-  pub pushed-store : (m .at ≡ b → ⊥) → a ≤ highestAccount → (w : ℕ) → w ≡ wordOf (upTo z a (m .size)) → Pushed s (set s (m .at) w) i b z a (record { full = false; front = m .at + 1 })
+  pub pushed-store : (m .at ≡ b → ⊥) → a ≤ highestAccount → (w : ℕ) → w ≡ wordOf (upTo z a (m .size)) → Pushed s (set s (m .at) w) i b z a (record { full = false; front = m .at + 1; back = b })
   pushed-store e l w q =
       let back = merged .at in
       let inside : m .at < length s = omega arith in
@@ -40,6 +41,7 @@ module _ {s : List ℕ} {i z a : ℕ} {m : Top} (merged : Merged s i z a m) (b :
         top = m;
         merged = merged;
         fits = omega arith;
+        there = refl;
         back = drop-set-lt b s (m .at) w (omega arith);
         full = sym (le-ltb b (m .at + 1) (omega arith));
         done = λ r. rw (add-one (m .at), take-suc-set s (m .at) w (omega arith), map-append tileOf (take (m .at) s) (w ∷ []), t);

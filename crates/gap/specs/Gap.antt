@@ -22,7 +22,6 @@ use Rattle.quadtree.specs.Quadtree.{quadtree}
 use Rattle.merging.specs.Merging.{tiles, upTo, Merged}
 use Rattle.merging.specs.declared.Top.{Top}
 use Rattle.gap.specs.declared.Gap.{Gap}
-use Rattle.gap.specs.declared.Front.{Front}
 use Rattle.gap.specs.declared.Outcome.{Outcome}
 
 abbrev pub held : List ℕ → ℕ → ℕ → List ℕ
@@ -55,10 +54,11 @@ abbrev pub High : List ℕ → ℕ → ℕ → Type 0
 High s b z = b < length s → z ≤ tileOf (getD s b 0) .corner
 
 -- the pixel is pushed on the first part, or this part has no slot for it
-pub record Pushed (s t : List ℕ) (i b z a : ℕ) (r : Front) : Type 0 where
+pub record Pushed (s t : List ℕ) (i b z a : ℕ) (r : Outcome) : Type 0 where
   pub top : Top
   pub merged : Merged s i z a top
   pub fits : r .front ≤ b
+  pub there : r .back ≡ b
   pub back : drop b t ≡ drop b s
   pub full : r .full ≡ ltb b (top .at + 1)
   pub done : r .full ≡ false → tiles (take (r .front) t) ≡ tiles (take (top .at) s) ++ upTo z a (top .size) ∷ []

@@ -14,13 +14,7 @@ pub struct Gap {
     pub back: usize,
 }
 
-// The front part after a pixel, which is full where there was no slot for it.
-pub struct Front {
-    pub full: bool,
-    pub front: usize,
-}
-
-// Both parts after a pixel.
+// Both parts after a pixel, and whether the slots were full: there was none for it.
 pub struct Outcome {
     pub full: bool,
     pub front: usize,
@@ -29,7 +23,7 @@ pub struct Outcome {
 
 // Puts the pixel z of an account behind the front part, where a slot is free for the tile that is left after merging. It merges over at most
 // `levels` levels: the largest block that ends with z has this size.
-fn push(slots: &mut [u32], front: usize, back: usize, z: u32, levels: u32, account: u8) -> Front
+fn push(slots: &mut [u32], front: usize, back: usize, z: u32, levels: u32, account: u8) -> Outcome
     requires { ⌜ Fits (now slots) front back ⌝ }
     requires { ⌜ (z < 4 ^ highestOrder) × (account ≤ highestAccount) ⌝ }
     requires { ⌜ Levels z levels ⌝ }
@@ -39,12 +33,17 @@ fn push(slots: &mut [u32], front: usize, back: usize, z: u32, levels: u32, accou
     let at = top.at;
     let size = top.size;
     if at == back {
-        return Front { full: true, front };
+        return Outcome {
+            full: true,
+            front,
+            back,
+        };
     }
     slots[at] = tile::pack(z + 1 - tile::area(size), size, account);
-    Front {
+    Outcome {
         full: false,
         front: at + 1,
+        back,
     }
 }
 
@@ -114,13 +113,7 @@ pub fn put(
     ensures { λ r. ⌜ Placed (now (slots .entry)) (now (slots .exit)) front back z account r ⌝ }
 {
     let g = seek(slots, front, back, z);
-    let back = g.back;
-    let p = push(slots, g.front, back, z, levels, account);
-    Outcome {
-        full: p.full,
-        front: p.front,
-        back,
-    }
+    push(slots, g.front, g.back, z, levels, account)
 }
 
 // The same where all the words lie in the front part and their tiles start ahead of z, so that nothing is searched.
@@ -132,12 +125,7 @@ pub fn append(slots: &mut [u32], front: usize, z: u32, levels: u32, account: u8)
     ensures { λ r. ⌜ (r .back ≡ length (now (slots .exit))) × Low (now (slots .exit)) (r .front) (z + 1) ⌝ }
 {
     let back = slots.len();
-    let p = push(slots, front, back, z, levels, account);
-    Outcome {
-        full: p.full,
-        front: p.front,
-        back,
-    }
+    push(slots, front, back, z, levels, account)
 }
 
 // Moves the back part down to the front part, and sets the rest of the slots to 0.
