@@ -18,8 +18,8 @@ use native.Mathlib.Nat.{le-refl}
 use native.Mathlib.Omega.{arith}
 use lib.ListN.{length}
 use Rattle.tile.specs.Tile.{Tile, stop}
-use Rattle.quadtree.specs.Raster.{Aligned, Uniform, accountAt, Quadrant, _∈_}
-use Rattle.quadtree.specs.Quadtree.{blocks, quadtree}
+use Rattle.quadtree.specs.Raster.{Uniform, accountAt, Quadrant, _∈_}
+use Rattle.quadtree.specs.Quadtree.{quadtree}
 use Rattle.quadtree.specs.Valid.{Chain, end, link, Valid}
 use Rattle.quadtree.proofs.Alignment.{area-pos, size-le, aligned-zero}
 use Rattle.quadtree.proofs.Tiling.{Tiling, none, next, tiling-le, tiling-cong, uniform-join}
