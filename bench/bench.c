@@ -30,21 +30,51 @@ static double now(void)
             __VA_ARGS__;                                           \
         }                                                          \
         double spent = now() - begin;                              \
-        (result) = spent / (double)runs;                           \
-        if (spent >= BATCH)                                        \
+        if (spent >= BATCH) {                                      \
+            (result) = spent / (double)runs;                       \
             break;                                                 \
+        }                                                          \
     }
 
-/* Sets `ours` and `other` to the least time of two statements, in turns; a single turn where it takes long. */
+/* The times of one way, turn by turn. */
+struct timing {
+    int turns;
+    double times[TURNS];
+};
+
+static double least(const struct timing *way)
+{
+    double best = way->times[0];
+    for (int turn = 1; turn < way->turns; turn++)
+        best = way->times[turn] < best ? way->times[turn] : best;
+    return best;
+}
+
+static int by_size(const void *a, const void *b)
+{
+    double x = *(const double *)a, y = *(const double *)b;
+    return (x > y) - (x < y);
+}
+
+/* One way's time divided by another's: the median of the quotients turn by turn, since the machine is faster at some times than at others. */
+static double ratio(const struct timing *way, const struct timing *other)
+{
+    double quotients[TURNS];
+    int turns = way->turns < other->turns ? way->turns : other->turns;
+    for (int turn = 0; turn < turns; turn++)
+        quotients[turn] = way->times[turn] / other->times[turn];
+    qsort(quotients, (size_t)turns, sizeof *quotients, by_size);
+    return quotients[turns / 2];
+}
+
+/* Times two statements in turns; in a single turn where it takes long. */
 #define BOTH(ours, our_call, other, other_call)                    \
     do {                                                           \
+        (ours).turns = (other).turns = 0;                          \
         for (int turn = 0; turn < TURNS; turn++) {                 \
-            double first, second;                                  \
-            TIME(first, our_call)                                  \
-            TIME(second, other_call)                               \
-            (ours) = turn && (ours) < first ? (ours) : first;      \
-            (other) = turn && (other) < second ? (other) : second; \
-            if (first > LONG)                                \
+            TIME((ours).times[(ours).turns++], our_call)           \
+            TIME((other).times[(other).turns++], other_call)       \
+            if ((ours).times[turn] > LONG)                         \
                 break;                                             \
         }                                                          \
     } while (0)
@@ -135,28 +165,26 @@ static void build_once(struct bench *b, uint32_t kind, int way)
     }
 }
 
-/* Half a row of the table of feeds, by kind: the least time of each way, in turns of all of them. */
+/* Half a row of the table of feeds, by kind: all ways in turns, the long ones in the first turn only. */
 static void feeds(struct bench *b, uint32_t kind)
 {
-    double best[WAYS] = {0}, all = (double)b->pixels;
+    struct timing ways[WAYS] = {0};
+    double all = (double)b->pixels;
     for (int turn = 0; turn < TURNS; turn++)
-        for (int way = 0; way < WAYS; way++) {
-            double took;
-            if (turn && best[way] > LONG)
-                continue;
-            TIME(took, build_once(b, kind, way))
-            best[way] = turn && best[way] < took ? best[way] : took;
-        }
-    printf("| %.2f | %.2f | %.2f ", best[OURS] / all, best[OURS] / best[STRAIGHT], best[OURS] / best[OTHER]);
+        for (int way = 0; way < WAYS; way++)
+            if (turn == 0 || ways[way].times[0] <= LONG)
+                TIME(ways[way].times[ways[way].turns++], build_once(b, kind, way))
+    const struct timing *ours = ways + OURS, *by_row = ways + OURS_BY_ROW, *other = ways + OTHER;
+    printf("| %.2f | %.2f | %.2f ", least(ours) / all, ratio(ours, ways + STRAIGHT), ratio(ours, other));
     if (kind == KB_ROWS)
-        printf("| %.2f ", best[OURS] / best[BUILT]);
-    printf("| %.2f | %.2f | %.2f ", best[OURS_BY_ROW] / all, best[OURS_BY_ROW] / best[STRAIGHT_BY_ROW], best[OURS_BY_ROW] / best[OTHER]);
+        printf("| %.2f ", ratio(ours, ways + BUILT));
+    printf("| %.2f | %.2f | %.2f ", least(by_row) / all, ratio(by_row, ways + STRAIGHT_BY_ROW), ratio(by_row, other));
 }
 
 /* A cell: nanoseconds for each tile, pixel or slot, and the ratio to straightforward C. */
-static void cell(double ours, double straight, size_t units)
+static void cell(const struct timing *ours, const struct timing *straight, size_t units)
 {
-    printf("| %.2f ×%.2f ", ours / (double)(units ? units : 1), ours / straight);
+    printf("| %.2f ×%.2f ", least(ours) / (double)(units ? units : 1), ratio(ours, straight));
 }
 
 /* One row of the table of the other calls. Every call but the fresh scan and the reader checks the list first. */
@@ -164,35 +192,35 @@ static void calls(struct bench *b)
 {
     uint32_t order = b->order, side = 1u << order, at = side / 3, corner = straight_morton(at & ~3u, at & ~3u);
     size_t tiles = b->tiles, m = tiles + 40;
-    double ours = 0, straight = 0;
+    struct timing ours, straight;
     uint32_t *slots = b->slots;
     memset(slots, 0, m * sizeof *slots);
     memcpy(slots, b->list, tiles * sizeof *slots);
     BOTH(ours, kb_check(order, tiles, slots, m), straight, straight_check(order, tiles, slots, m));
-    cell(ours, straight, tiles);
+    cell(&ours, &straight, tiles);
     BOTH(ours, kb_lookup(order, tiles, slots, m, at, at), straight, straight_lookup(order, tiles, slots, m, at, at));
-    cell(ours, straight, tiles);
+    cell(&ours, &straight, tiles);
     BOTH(ours, kb_part(order, tiles, slots, m, corner, 2), straight, straight_part(order, tiles, slots, m, corner, 2));
-    cell(ours, straight, tiles);
+    cell(&ours, &straight, tiles);
     BOTH(ours, kb_rights(order, tiles, slots, m, at, at, 9), straight, straight_rights(order, tiles, slots, m, at, at, 9));
-    cell(ours, straight, tiles);
+    cell(&ours, &straight, tiles);
     /* A block of 16 pixels is claimed and released in turn. */
     size_t left = tiles;
     BOTH(ours, left = kb_claim(order, left, slots, m, corner, 2, 9).tiles; left = kb_claim(order, left, slots, m, corner, 2, 0).tiles,
          straight, left = straight_claim(order, left, slots, m, corner, 2, 9).tiles;
          left = straight_claim(order, left, slots, m, corner, 2, 0).tiles);
-    cell(ours / 2, straight / 2, tiles);
+    cell(&ours, &straight, 2 * tiles);
     memcpy(slots, b->list, tiles * sizeof *slots);
     size_t length = kb_write(order, tiles, slots, m, b->file, KB_FILE_MOST(b->pixels)).length;
     BOTH(ours, kb_write(order, tiles, slots, m, b->file, length), straight, straight_write(order, tiles, slots, m, b->file, length));
-    cell(ours, straight, tiles);
+    cell(&ours, &straight, tiles);
     BOTH(ours, kb_read(b->file, length, slots, tiles), straight, straight_read(b->file, length, slots, tiles));
-    cell(ours, straight, tiles);
+    cell(&ours, &straight, tiles);
     BOTH(ours, kb_decode(order, tiles, slots, m, b->raster, b->pixels), straight,
          straight_decode(order, tiles, slots, m, b->raster, b->pixels));
-    cell(ours, straight, b->pixels);
+    cell(&ours, &straight, b->pixels);
     BOTH(ours, kb_fresh(KB_ROWS, order, slots, b->pixels), straight, straight_fresh(KB_ROWS, order, slots, b->pixels));
-    cell(ours, straight, b->pixels);
+    cell(&ours, &straight, b->pixels);
 }
 
 int main(int argc, char **argv)
