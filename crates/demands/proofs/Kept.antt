@@ -70,20 +70,22 @@ module _ {m : ℕ} (b : Bed) (w : Good m (b .order) (b .scanned) (b .account)) w
       unless-on _ _ _ (else-on _ _ kept-check ∙ must-on rasterLength accepted (test-eqb (length raster) (4 ^ b .order)) e)
       ∙ ap {B = After ℕ} (λ l. record { answer = accepted; storage = l }) (rows-cong (b .order) (accountAt (listIn (keptBy m b))) (b .account) kept-shown)
 
-  kept-rest : drop (keptBy m b .scan .tiles) (keptBy m b .slots) ≡ replicate (length (keptBy m b .slots) - keptBy m b .scan .tiles) 0
+  kept-rest : drop (keptBy m b .scan .tiles) (keptBy m b .slots) ≡ replicate (m - keptBy m b .scan .tiles) 0
   unfolding filled
-  kept-rest =
-      drop-at (map wordOf (quadtree (b .order) (b .account))) (replicate (m - length (quadtree (b .order) (b .account))) 0) (length (quadtree (b .order) (b .account))) (length-map (quadtree (b .order) (b .account)) wordOf)
-      ∙ ap (λ (l : ℕ). replicate (l - length (quadtree (b .order) (b .account))) 0) (sym kept-length)
+  kept-rest = drop-at (map wordOf (quadtree (b .order) (b .account))) (replicate (m - length (quadtree (b .order) (b .account))) 0) (length (quadtree (b .order) (b .account))) (length-map (quadtree (b .order) (b .account)) wordOf)
 
-  kept-left-by : Left (keptBy m b) b
+  kept-left-by : Left m (keptBy m b) b
   kept-left-by = record {
+    kind = refl;
     order = refl;
+    scanned = refl;
+    tiles = ap length (sym kept-list);
+    lent = kept-length;
     linear = rw kept-list (quadtree-linear (b .order) (b .account));
     rest = kept-rest;
     decodes = kept-decodes;
     least = λ ts s. rw kept-list (shows-least s);
   }
 
-pub kept-left : {m : ℕ} {s : State} {b : Bed} → Kept m s b → Left s b
+pub kept-left : {m : ℕ} {s : State} {b : Bed} → Kept m s b → Left m s b
 kept-left {b = b} k = rw (k .is) (kept-left-by b (k .good))

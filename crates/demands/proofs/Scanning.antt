@@ -1,15 +1,15 @@
 -- Feeds from a fresh scan: what is kept is the raster of the pixels taken.
---     scanBed k n px         the bed on which the pixels px stand on the first places of the scan
 --     put-raster             one more pixel
 --     feed-scanned           a feed takes some bytes, and puts just those on their places
---     afterFeeds-scanned     a list of feeds
+--     feed-counted           it answers as many as it takes
+--     scan-kept, scan-counted   the same of a list of feeds from a fresh scan
 use mathlib.Core.Path.{_≡_, refl, ap, sym, _∙_}
 use mathlib.Core.Bool.{false}
 use mathlib.Core.List.{List, [], _∷_, _++_, append-assoc, append-nil}
 use Prim.Native.Nat.{ℕ, suc, _+_, _^_, _≤_, _<_}
 use native.Mathlib.Omega.{arith}
 use lib.ListN.{length, take, getD, replicate, length-append, List·getD-append, List·getD-eq-default}
-use lib.Seq.{getD-at}
+use lib.Seq.{getD-at, length-take-le}
 use Rattle.basics.specs.Choice.{if}
 use Rattle.basics.proofs.Tests.{test-leb, test-eqb}
 use Rattle.basics.proofs.ChoiceLaws.{by-if}
@@ -29,13 +29,10 @@ use Rattle.bed.proofs.PlaceLaws.{placeOf-pixelAt, pixelAt-placeOf}
 use Rattle.bed.proofs.BedLaws.{Agree, Good, bedOf, put, put-good, FedAlike, feedPixels-alike}
 use Rattle.scan.specs.FreshScan.{freshOf}
 use Rattle.demands.specs.Calls.{Answer, State, step, plainStep, plainFed, afterFeed, feed}
-use Rattle.demands.specs.Demands.{freshState, afterFeeds, taken, scanRaster}
+use Rattle.demands.specs.Demands.{freshState, afterFeeds, taken, answered, scanRaster, scanBed}
 use Rattle.demands.proofs.Kept.{keptBy, Kept}
 use Rattle.demands.proofs.Unscanned.{none-unscanned}
 use Rattle.demands.proofs.Steps.{Agrees, fresh-kept, step-agrees}
-
-abbrev pub scanBed : Kind → ℕ → List ℕ → Bed
-scanBed k n px = bedOf k n (length px) (scanRaster k n px)
 
 -- what is kept goes by the raster's accounts on the bed
 good-agree : {m n s : ℕ} {f g : ℕ → ℕ} → Agree n f g → Good m n s f → Good m n s g
@@ -75,17 +72,19 @@ module _ (k : Kind) (n : ℕ) where
   record Took (px bytes : List ℕ) (j : ℕ) (r : Fed) : Type 0 where
     count : ℕ
     taken : r .taken ≡ j + count
+    within : count ≤ length bytes
     raster : ℕ → ℕ
     bed : r .bed ≡ bedOf k n (length (px ++ take count bytes)) raster
     agree : Agree n raster (scanRaster k n (px ++ take count bytes))
 
   took-none : (number j : ℕ) (px bytes : List ℕ) → Took px bytes j (stopped number j (scanBed k n px))
-  took-none number j px bytes = record { count = 0; taken = omega arith; raster = scanRaster k n px; bed = rw (append-nil px); agree = λ z h. rw (append-nil px) }
+  took-none number j px bytes = record { count = 0; taken = omega arith; within = omega arith; raster = scanRaster k n px; bed = rw (append-nil px); agree = λ z h. rw (append-nil px) }
 
   took-more : (m j a : ℕ) (px bytes : List ℕ) {p q : Fed} → FedAlike m k n p q → Took (px ++ a ∷ []) bytes (j + 1) q → Took px (a ∷ bytes) j p
   took-more m j a px bytes {p} {q} f t = record {
     count = suc (t .count);
     taken = f .taken ∙ t .taken ∙ (omega arith);
+    within = omega (arith, t .within);
     raster = f .first;
     bed = f .first-bed ∙ ap (λ (s : ℕ). bedOf k n s (f .first)) (ap (λ (b : Bed). b .scanned) beds ∙ ap length lists);
     agree = λ z h. f .agree z h ∙ ap (λ (b : Bed). b .account z) beds ∙ t .agree z h ∙ ap (λ (l : List ℕ). scanRaster k n l z) lists;
@@ -136,10 +135,13 @@ module _ (k : Kind) (n : ℕ) where
     pub feed-scanned : Kept m (step t (feed bytes) .state) (scanBed k n (px ++ take (step t (feed bytes) .answer .taken) bytes))
     feed-scanned = rw count-taken (kept-agree k n (length (px ++ take (took .count) bytes)) (took .raster) (scanRaster k n (px ++ take (took .count) bytes)) (took .agree) (rw (took .bed) at (agrees .kept)))
 
+    pub feed-counted : step t (feed bytes) .answer .taken ≡ length (take (step t (feed bytes) .answer .taken) bytes)
+    feed-counted = sym (length-take-le (step t (feed bytes) .answer .taken) bytes (omega (arith, count-taken, took .within)))
+
   feeds-more : {m : ℕ} (t : State) (px bytes : List ℕ) (feeds : List (List ℕ)) →
       Kept m (afterFeeds (step t (feed bytes) .state) feeds) (scanBed k n ((px ++ take (step t (feed bytes) .answer .taken) bytes) ++ taken (step t (feed bytes) .state) feeds)) →
       Kept m (afterFeeds t (bytes ∷ feeds)) (scanBed k n (px ++ taken t (bytes ∷ feeds)))
-  unfolding afterFeeds taken step afterFeed
+  unfolding afterFeeds taken
   feeds-more t px bytes feeds w = rw append-assoc at w
 
   pub afterFeeds-scanned : {m : ℕ} {t : State} (px : List ℕ) (feeds : List (List ℕ)) → Kept m t (scanBed k n px) → Kept m (afterFeeds t feeds) (scanBed k n (px ++ taken t feeds))
@@ -147,10 +149,26 @@ module _ (k : Kind) (n : ℕ) where
   afterFeeds-scanned px [] w = rw (append-nil px) w
   afterFeeds-scanned {m} {t} px (bytes ∷ feeds) w = feeds-more t px bytes feeds (afterFeeds-scanned (px ++ take (step t (feed bytes) .answer .taken) bytes) feeds (feed-scanned px bytes w))
 
+  counted-more : (t : State) (bytes : List ℕ) (feeds : List (List ℕ)) → step t (feed bytes) .answer .taken ≡ length (take (step t (feed bytes) .answer .taken) bytes) →
+      answered (step t (feed bytes) .state) feeds ≡ length (taken (step t (feed bytes) .state) feeds) → answered t (bytes ∷ feeds) ≡ length (taken t (bytes ∷ feeds))
+  unfolding answered taken
+  counted-more t bytes feeds e w = omega (arith, e, w, length-append (take (step t (feed bytes) .answer .taken) bytes) (taken (step t (feed bytes) .state) feeds))
+
+  afterFeeds-counted : {m : ℕ} {t : State} (px : List ℕ) (feeds : List (List ℕ)) → Kept m t (scanBed k n px) → answered t feeds ≡ length (taken t feeds)
+  unfolding answered taken
+  afterFeeds-counted px [] w = refl
+  afterFeeds-counted {m} {t} px (bytes ∷ feeds) w = counted-more t bytes feeds (feed-counted px bytes w) (afterFeeds-counted (px ++ take (step t (feed bytes) .answer .taken) bytes) feeds (feed-scanned px bytes w))
+
   fresh-state : (slots : List ℕ) → n ≤ highestOrder → freshState k n slots ≡ record { scan = scanOf k n 0 0; slots = replicate (length slots) 0 }
   unfolding freshOf unless
   fresh-state slots h = rw (must-on orderTooLarge accepted (test-leb n highestOrder) h)
 
+  fresh-scanned : (slots : List ℕ) → n ≤ highestOrder → Kept (length slots) (freshState k n slots) (scanBed k n [])
+  fresh-scanned slots h = rw (fresh-state slots h) (fresh-kept (length slots) (length slots) refl k n h)
+
   pub scan-kept : (slots : List ℕ) (feeds : List (List ℕ)) → n ≤ highestOrder →
       Kept (length slots) (afterFeeds (freshState k n slots) feeds) (scanBed k n (taken (freshState k n slots) feeds))
-  scan-kept slots feeds h = afterFeeds-scanned [] feeds (rw (fresh-state slots h) (fresh-kept (length slots) (length slots) refl k n h))
+  scan-kept slots feeds h = afterFeeds-scanned [] feeds (fresh-scanned slots h)
+
+  pub scan-counted : (slots : List ℕ) (feeds : List (List ℕ)) → n ≤ highestOrder → answered (freshState k n slots) feeds ≡ length (taken (freshState k n slots) feeds)
+  scan-counted slots feeds h = afterFeeds-counted [] feeds (fresh-scanned slots h)

@@ -15,7 +15,7 @@ use Rattle.demands.specs.Calls.{Call, State, step, plainStep, answers, l
 use Rattle.demands.specs.Demands.{listIn, DemandTwo, DemandThree}
 use Rattle.demands.proofs.Kept.{Kept, kept-list, kept-left}
 use Rattle.demands.proofs.Steps.{Agrees, step-agrees, begin-agrees}
-use Rattle.demands.proofs.Scanning.{scan-kept}
+use Rattle.demands.proofs.Scanning.{scan-kept, scan-counted}
 
 -- a list of calls on a state that keeps a bed
 record Ran (m : ℕ) (s : State) (b : Bed) (cs : List Call) : Type 0 where
@@ -56,10 +56,7 @@ same-lists {m₁} {m₂} {s₁} {s₂} {b₁} {b₂} k₁ k₂ e = (there, back)
 
 pub demand-two : DemandTwo
 unfolding DemandTwo
-demand-two k n slots feeds h =
-    let w = scan-kept k n slots feeds h in
-    let l = kept-left w in
-    record { count = ap (λ (s : State). s .scan .pixels) (w .is); linear = l .linear; decodes = l .decodes }
+demand-two k n slots feeds h = record { counted = scan-counted k n slots feeds h; left = kept-left (scan-kept k n slots feeds h) }
 
 pub demand-three : DemandThree
 unfolding DemandThree
