@@ -1,27 +1,24 @@
 -- Laws of the plain bed. It goes by the accounts of its own pixels: rasters that agree on them give the same answers.
 --     test-blockIn       the test of a block
 --     Agree n f g        f and g have the same accounts on the pixels of order n
---     bedOf k n s f      the bed of kind k and order n with s pixels scanned and the raster f
 --     Good m n s f       what holds of a bed that a list in m slots shows: the order and s are in range, accounts too, and the blocks fit
 --     put k n s a f      the raster f with the account a on the place behind the first s
+--     pixelCheck-passed  what an account that is not refused passed
 --     FedAlike           two feeds answer alike, and leave beds that agree and are good
 --     feedPixels-alike   feeds of beds that agree
 --     claimCheck-agree   claims on rasters that agree are refused alike
 --     Room m b           the linear quadtree of the bed b fits m slots
 --     feedPixels-room    a feed leaves a bed that fits the slots, if it was given one
-use mathlib.Core.Path.{_≡_, refl, ap, sym, _∙_}
-use mathlib.Core.Bool.{Bool}
+use mathlib.Core.Path.{_≡_, refl, sym, _∙_}
 use mathlib.Core.List.{List, [], _∷_}
 use Prim.Native.Nat.{ℕ, suc, _+_, _^_, _≤_, _<_}
 use native.Mathlib.Decide.{decLt, decLe}
 use native.Mathlib.Omega.{arith}
-use lib.Dec.{ltb}
 use lib.ListN.{length}
-use Rattle.basics.specs.Choice.{if}
-use Rattle.basics.proofs.Tests.{Test, holds, fails, test-leb, test-eqb, test-and}
-use Rattle.basics.proofs.ChoiceLaws.{by-if}
-use Rattle.refusal.specs.Refusal.{accepted, scanFull, accountTooLarge, slotsExceeded}
-use Rattle.tile.specs.Tile.{Tile, highestOrder, highestAccount}
+use Rattle.basics.proofs.Tests.{Test, test-leb, test-eqb, test-and, test-not}
+use Rattle.refusal.proofs.CheckLaws.{must-inv, by-unless, unless-alike}
+use Rattle.refusal.specs.Refusal.{accepted}
+use Rattle.tile.specs.Tile.{highestOrder, highestAccount}
 use Rattle.quadtree.specs.Raster.{Aligned, paint}
 use Rattle.quadtree.specs.Quadtree.{quadtree}
 use Rattle.quadtree.proofs.Alignment.{test-aligned}
@@ -29,7 +26,7 @@ use Rattle.quadtree.proofs.Shown.{paint-in, paint-out}
 use Rattle.quadtree.proofs.ValidLaws.{quadtree-cong}
 use Rattle.bed.specs.declared.Kind.{Kind}
 use Rattle.bed.specs.Places.{pixelAt}
-use Rattle.bed.specs.Bed.{Bed, Fed, stopped, putPixel, feedPixels, blockIn, claimed, claimCheck}
+use Rattle.bed.specs.Bed.{Bed, bedOf, Fed, stopped, putPixel, pixelCheck, feedPixels, blockIn, claimed, claimCheck}
 
 pub test-blockIn : (n c k : ℕ) → Test ((k ≤ n) × ((c < 4 ^ n) × Aligned k c)) (blockIn n c k)
 unfolding blockIn
@@ -50,9 +47,6 @@ paint-agree n {f} {g} lo hi a e z h = elim (decLe lo z) [
     out : ((lo ≤ z) × (z < hi) → ⊥) → paint f lo hi a z ≡ paint g lo hi a z
     out i = paint-out f lo hi a z i ∙ e z h ∙ sym (paint-out g lo hi a z i)
 
-abbrev pub bedOf : Kind → ℕ → ℕ → (ℕ → ℕ) → Bed
-bedOf k n s f = record { order = n; kind = k; scanned = s; account = f }
-
 -- accounts are in range
 abbrev pub Accounts : ℕ → (ℕ → ℕ) → Type 0
 Accounts n f = (z : ℕ) → z < 4 ^ n → f z ≤ highestAccount
@@ -69,12 +63,6 @@ pub record Good (m n s : ℕ) (f : ℕ → ℕ) : Type 0 where
   pub accounts : Accounts n f
   pub room : length (quadtree n f) ≤ m
 
--- the same choice on both sides
-if-alike : {A B : Type 0} (R : A → B → Type 0) {P : Type 0} {b c : Bool} {x y : A} {u v : B} → Test P b → c ≡ b → R x u → ((P → ⊥) → R y v) → R (if c x y) (if b u v)
-unfolding if
-if-alike R (holds p) e s t = rw e s
-if-alike R (fails p) e s t = rw e (t p)
-
 pub record FedAlike (m : ℕ) (k : Kind) (n : ℕ) (p q : Fed) : Type 0 where
   pub number : p .number ≡ q .number
   pub taken : p .taken ≡ q .taken
@@ -85,6 +73,18 @@ pub record FedAlike (m : ℕ) (k : Kind) (n : ℕ) (p q : Fed) : Type 0 where
   pub second-bed : q .bed ≡ bedOf k n scanned second
   pub agree : Agree n first second
   pub good : Good m n scanned second
+
+pub record Passed (m : ℕ) (b : Bed) (a : ℕ) : Type 0 where
+  pub going : b .scanned ≡ 4 ^ b .order → ⊥
+  pub low : a ≤ highestAccount
+  pub room : length (quadtree (b .order) (putPixel b a .account)) ≤ m
+
+pub pixelCheck-passed : {m : ℕ} {b : Bed} {a : ℕ} → pixelCheck m b a ≡ accepted → Passed m b a
+unfolding pixelCheck
+pixelCheck-passed {m} {b} {a} e =
+    let p = must-inv (test-not (test-eqb (b .scanned) (4 ^ b .order))) (omega arith) e in
+    let q = must-inv (test-leb a highestAccount) (omega arith) (p .1) in
+    record { going = p .0; low = q .0; room = must-inv (test-leb (length (quadtree (b .order) (putPixel b a .account))) m) (omega arith) (q .1) .0 }
 
 -- the raster f with the account a on the place behind the first s
 abbrev pub put : Kind → ℕ → ℕ → ℕ → (ℕ → ℕ) → ℕ → ℕ
@@ -97,19 +97,20 @@ module _ (m : ℕ) (k : Kind) (n : ℕ) where
   put-agree : (s a : ℕ) (f g : ℕ → ℕ) → Agree n f g → Agree n (put k n s a f) (put k n s a g)
   put-agree s a f g e = paint-agree n (pixelAt k n s) (pixelAt k n s + 1) a e
 
-  pub put-good : (s a : ℕ) (g : ℕ → ℕ) → Good m n s g → (s ≡ 4 ^ n → ⊥) → a ≤ highestAccount → length (quadtree n (put k n s a g)) ≤ m → Good m n (s + 1) (put k n s a g)
-  put-good s a g w full low room = record { order = w .order; scanned = omega (arith, w .scanned); accounts = paint-accounts n (pixelAt k n s) (pixelAt k n s + 1) a low (w .accounts); room = room }
+  pub put-good : (s a : ℕ) (g : ℕ → ℕ) → Good m n s g → Passed m (bedOf k n s g) a → Good m n (s + 1) (put k n s a g)
+  unfolding putPixel
+  put-good s a g w p = record { order = w .order; scanned = omega (arith, w .scanned, p .going); accounts = paint-accounts n (pixelAt k n s) (pixelAt k n s + 1) a (p .low) (w .accounts); room = p .room }
+
+  pixelCheck-agree : (s a : ℕ) (f g : ℕ → ℕ) → Agree n f g → pixelCheck m (bedOf k n s f) a ≡ pixelCheck m (bedOf k n s g) a
+  unfolding pixelCheck putPixel
+  pixelCheck-agree s a f g e = rw (quadtree-cong n (put k n s a f) (put k n s a g) (put-agree s a f g e))
 
   pixel-alike : (j s a : ℕ) (f g : ℕ → ℕ) (bytes : List ℕ) → Agree n f g → Good m n s g →
       (Good m n (s + 1) (put k n s a g) → FedAlike m k n (feedPixels m (j + 1) (bedOf k n (s + 1) (put k n s a f)) bytes) (feedPixels m (j + 1) (bedOf k n (s + 1) (put k n s a g)) bytes)) →
       FedAlike m k n (feedPixels m j (bedOf k n s f) (a ∷ bytes)) (feedPixels m j (bedOf k n s g) (a ∷ bytes))
   unfolding feedPixels putPixel
   pixel-alike j s a f g bytes e w rest =
-      if-alike (FedAlike m k n) (test-eqb s (4 ^ n)) refl (stopped-alike scanFull j s f g e w) (λ full.
-      if-alike (FedAlike m k n) (test-leb (suc highestAccount) a) refl (stopped-alike accountTooLarge j s f g e w) (λ high.
-      if-alike (FedAlike m k n) (test-leb (suc m) (length (quadtree n (put k n s a g)))) (ap (λ (ts : List Tile). ltb m (length ts)) (quadtree-cong n (put k n s a f) (put k n s a g) (put-agree s a f g e)))
-      (stopped-alike slotsExceeded j s f g e w) (λ over.
-      rest (put-good s a g w full (omega arith) (omega arith)))))
+      rw (pixelCheck-agree s a f g e) (unless-alike (FedAlike m k n) (pixelCheck m (bedOf k n s g) a) (λ r. stopped-alike r j s f g e w) (λ p. rest (put-good s a g w (pixelCheck-passed p))))
 
   pub feedPixels-alike : (j s : ℕ) (f g : ℕ → ℕ) (bytes : List ℕ) → Agree n f g → Good m n s g →
       FedAlike m k n (feedPixels m j (bedOf k n s f) bytes) (feedPixels m j (bedOf k n s g) bytes)
@@ -128,7 +129,4 @@ pub feedPixels-room : (m k : ℕ) (b : Bed) (bytes : List ℕ) → Room m b → 
 unfolding feedPixels putPixel
 feedPixels-room m k b [] h = h
 feedPixels-room m k b (a ∷ bytes) h =
-    by-if (λ (r : Fed). Room m (r .bed)) (test-eqb (b .scanned) (4 ^ b .order)) (λ full. h) (λ full.
-    by-if (λ (r : Fed). Room m (r .bed)) (test-leb (suc highestAccount) a) (λ high. h) (λ high.
-    by-if (λ (r : Fed). Room m (r .bed)) (test-leb (suc m) (length (quadtree (b .order) (putPixel b a .account)))) (λ over. h) (λ over.
-    feedPixels-room m (k + 1) (putPixel b a) bytes (omega arith))))
+    by-unless (λ (r : Fed). Room m (r .bed)) (pixelCheck m b a) (λ r. h) (λ e. feedPixels-room m (k + 1) (putPixel b a) bytes (pixelCheck-passed e .room))

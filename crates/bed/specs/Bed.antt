@@ -1,11 +1,12 @@
 -- The plain bed (document 01, "The plain bed"): what every call means, with no list in sight. Definitions only.
 --     Bed                     order, kind, pixels scanned, and the account of each pixel by its Morton number
---     shownBed c slots        the bed that a scan record and the slots of its list show
+--     bedOf k n s f           the bed of kind k and order n with s pixels scanned and the raster f
 --     freshBed k n            a fresh scan: no pixel scanned, every account 0
 --     hasUnscanned b          a somebody's pixel is unscanned
 --     putPixel b a            the account a put on the next place
+--     pixelCheck m b a        23, 24, 25 of the account a on the next place of the bed b, with m slots
 --     Fed                     what a feed answers, with the bed that it leaves
---     feedPixels m k b bytes   the accounts in turn, k taken before: 23, 24, 25 at each
+--     feedPixels m k b bytes   the accounts in turn, k taken before, up to the first that is refused
 --     feedBed m b bytes        the feed of a bed with m slots: 22, then the accounts
 --     blockIn n c k           the block of size k at the corner c is a quadrant of a bed of order n
 --     claimCheck m n f c k a  32, 24, 25 of a claim with m slots on the raster f
@@ -17,13 +18,11 @@ use lib.Dec.{leb, ltb, eqb}
 use lib.ListN.{length}
 use Rattle.basics.specs.Choice.{if, some}
 use Rattle.refusal.specs.Refusal.{accepted, tileUnscanned, scanFull, accountTooLarge, slotsExceeded, blockInvalid}
-use Rattle.refusal.specs.Checks.{must}
+use Rattle.refusal.specs.Checks.{must, unless}
 use Rattle.tile.specs.Tile.{highestAccount}
-use Rattle.tile.specs.Slots.{tilesIn}
-use Rattle.quadtree.specs.Raster.{aligned, accountAt, paint}
+use Rattle.quadtree.specs.Raster.{aligned, paint}
 use Rattle.quadtree.specs.Quadtree.{quadtree}
 use Rattle.bed.specs.declared.Kind.{Kind}
-use Rattle.bed.specs.declared.Scan.{Scan}
 use Rattle.bed.specs.Places.{pixelAt, scanned}
 
 pub record Bed : Type 0 where
@@ -32,11 +31,11 @@ pub record Bed : Type 0 where
   pub scanned : ℕ
   pub account : ℕ → ℕ
 
-abbrev pub shownBed : Scan → List ℕ → Bed
-shownBed c slots = record { order = c .order; kind = c .kind; scanned = c .pixels; account = accountAt (tilesIn (c .tiles) slots) }
+abbrev pub bedOf : Kind → ℕ → ℕ → (ℕ → ℕ) → Bed
+bedOf k n s f = record { order = n; kind = k; scanned = s; account = f }
 
 abbrev pub freshBed : Kind → ℕ → Bed
-freshBed k n = record { order = n; kind = k; scanned = 0; account = λ z. 0 }
+freshBed k n = bedOf k n 0 (λ z. 0)
 
 unfoldable pub hasUnscanned : Bed → Bool
 hasUnscanned b = some (λ z. ltb 0 (b .account z) && not (scanned (b .kind) (b .order) (b .scanned) z)) 0 (4 ^ b .order)
@@ -44,7 +43,13 @@ hasUnscanned b = some (λ z. ltb 0 (b .account z) && not (scanned (b .kind) (b .
 unfoldable pub putPixel : Bed → ℕ → Bed
 putPixel b a =
     let z : ℕ = pixelAt (b .kind) (b .order) (b .scanned) in
-    record { order = b .order; kind = b .kind; scanned = b .scanned + 1; account = paint (b .account) z (z + 1) a }
+    bedOf (b .kind) (b .order) (b .scanned + 1) (paint (b .account) z (z + 1) a)
+
+unfoldable pub pixelCheck : ℕ → Bed → ℕ → ℕ
+pixelCheck m b a =
+    must (not (eqb (b .scanned) (4 ^ b .order))) scanFull
+    (must (leb a highestAccount) accountTooLarge
+    (must (leb (length (quadtree (b .order) (putPixel b a .account))) m) slotsExceeded accepted))
 
 pub record Fed : Type 0 where
   pub number : ℕ
@@ -56,11 +61,7 @@ stopped r k b = record { number = r; taken = k; bed = b }
 
 unfoldable pub feedPixels : ℕ → ℕ → Bed → List ℕ → Fed
 feedPixels m k b [] = stopped accepted k b
-feedPixels m k b (a ∷ bytes) =
-    if (eqb (b .scanned) (4 ^ b .order)) (stopped scanFull k b)
-    (if (ltb highestAccount a) (stopped accountTooLarge k b)
-    (if (ltb m (length (quadtree (b .order) (putPixel b a .account)))) (stopped slotsExceeded k b)
-    (feedPixels m (k + 1) (putPixel b a) bytes)))
+feedPixels m k b (a ∷ bytes) = unless (pixelCheck m b a) (λ number. stopped number k b) (feedPixels m (k + 1) (putPixel b a) bytes)
 
 unfoldable pub feedBed : ℕ → Bed → List ℕ → Fed
 feedBed m b bytes = if (hasUnscanned b) (stopped tileUnscanned 0 b) (feedPixels m 0 b bytes)

@@ -11,24 +11,22 @@ use native.Mathlib.Omega.{arith}
 use lib.ListN.{length, take, getD, replicate, length-append, List·getD-append, List·getD-eq-default}
 use lib.Seq.{getD-at, length-take-le}
 use Rattle.basics.specs.Choice.{if}
-use Rattle.basics.proofs.Tests.{test-leb, test-eqb}
-use Rattle.basics.proofs.ChoiceLaws.{by-if}
-use Rattle.refusal.specs.Refusal.{accepted, orderTooLarge, scanFull, accountTooLarge, slotsExceeded}
+use Rattle.basics.proofs.Tests.{test-leb}
+use Rattle.refusal.specs.Refusal.{accepted, orderTooLarge}
 use Rattle.refusal.specs.Checks.{unless}
-use Rattle.refusal.proofs.CheckLaws.{must-on}
-use Rattle.tile.specs.Tile.{highestOrder, highestAccount}
+use Rattle.refusal.proofs.CheckLaws.{must-on, by-unless}
+use Rattle.tile.specs.Tile.{highestOrder}
 use Rattle.quadtree.specs.Raster.{paint}
-use Rattle.quadtree.specs.Quadtree.{quadtree}
 use Rattle.quadtree.proofs.Alignment.{Cmp, cmp, below, same, above}
 use Rattle.quadtree.proofs.Shown.{paint-in, paint-out}
 use Rattle.quadtree.proofs.ValidLaws.{quadtree-cong}
 use Rattle.bed.specs.declared.Kind.{Kind}
 use Rattle.bed.specs.Places.{scanOf, placeOf, pixelAt}
-use Rattle.bed.specs.Bed.{Bed, Fed, stopped, putPixel, feedPixels, feedBed, hasUnscanned}
+use Rattle.bed.specs.Bed.{Bed, bedOf, Fed, stopped, putPixel, pixelCheck, feedPixels, feedBed, hasUnscanned}
 use Rattle.bed.proofs.PlaceLaws.{placeOf-pixelAt, pixelAt-placeOf}
-use Rattle.bed.proofs.BedLaws.{Agree, Good, bedOf, put, put-good, FedAlike, feedPixels-alike}
+use Rattle.bed.proofs.BedLaws.{Agree, Good, put, put-good, pixelCheck-passed, FedAlike, feedPixels-alike}
 use Rattle.scan.specs.FreshScan.{freshOf}
-use Rattle.demands.specs.Calls.{Answer, State, step, plainStep, plainFed, afterFeed, feed}
+use Rattle.demands.specs.Calls.{Answer, State, step, plainStep, plainFed, feed}
 use Rattle.demands.specs.Demands.{freshState, afterFeeds, taken, answered, scanRaster, scanBed}
 use Rattle.demands.proofs.Kept.{keptBy, Kept}
 use Rattle.demands.proofs.Unscanned.{none-unscanned}
@@ -101,14 +99,12 @@ module _ (k : Kind) (n : ℕ) where
       (Good m n (length (px ++ a ∷ [])) (scanRaster k n (px ++ a ∷ [])) → Took (px ++ a ∷ []) bytes (j + 1) (feedPixels m (j + 1) (scanBed k n (px ++ a ∷ [])) bytes)) →
       Took px (a ∷ bytes) j (feedPixels m j (scanBed k n px) (a ∷ bytes))
   unfolding feedPixels putPixel
-  pixel-took m j a px bytes w rest =
-      by-if (Took px (a ∷ bytes) j) (test-eqb (length px) (4 ^ n)) (λ q. took-none scanFull j px (a ∷ bytes)) (λ full.
-      by-if (Took px (a ∷ bytes) j) (test-leb (suc highestAccount) a) (λ q. took-none accountTooLarge j px (a ∷ bytes)) (λ high.
-      by-if (Took px (a ∷ bytes) j) (test-leb (suc m) (length (quadtree n (put k n (length px) a (scanRaster k n px))))) (λ q. took-none slotsExceeded j px (a ∷ bytes)) (λ over.
-      let e = put-raster px a (omega (arith, w .scanned)) in
-      let v : Good m n (length px + 1) (scanRaster k n (px ++ a ∷ [])) = good-agree e (put-good m k n (length px) a (scanRaster k n px) w full (omega arith) (omega arith)) in
+  pixel-took m j a px bytes w rest = by-unless (Took px (a ∷ bytes) j) (pixelCheck m (scanBed k n px) a) (λ r. took-none r j px (a ∷ bytes)) (λ p.
+      let v = pixelCheck-passed p in
+      let e = put-raster px a (omega (arith, w .scanned, v .going)) in
+      let g : Good m n (length px + 1) (scanRaster k n (px ++ a ∷ [])) = good-agree e (put-good m k n (length px) a (scanRaster k n px) w v) in
       let l : length (px ++ a ∷ []) ≡ length px + 1 = length-append px (a ∷ []) in
-      took-more m j a px bytes (feedPixels-alike m k n (j + 1) (length px + 1) _ _ bytes e v) (rw l at (rest (rw l v))))))
+      took-more m j a px bytes (feedPixels-alike m k n (j + 1) (length px + 1) _ _ bytes e g) (rw l at (rest (rw l g))))
 
   feedPixels-took : (m j : ℕ) (px bytes : List ℕ) → Good m n (length px) (scanRaster k n px) → Took px bytes j (feedPixels m j (scanBed k n px) bytes)
   unfolding feedPixels

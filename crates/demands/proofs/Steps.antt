@@ -30,8 +30,8 @@ use Rattle.bed.specs.declared.Kind.{Kind}
 use Rattle.bed.specs.declared.Kind.the-variants.{Rows}
 use Rattle.bed.specs.Places.{scanOf}
 use Rattle.bed.specs.Bed as bed
-use Rattle.bed.specs.Bed.{Bed, freshBed, claimed, claimCheck, feedBed, feedPixels, hasUnscanned}
-use Rattle.bed.proofs.BedLaws.{Good, bedOf, paint-agree, paint-accounts, claimCheck-agree, FedAlike, feedPixels-alike}
+use Rattle.bed.specs.Bed.{Bed, bedOf, freshBed, claimed, claimCheck, feedBed, feedPixels, hasUnscanned}
+use Rattle.bed.proofs.BedLaws.{Good, paint-agree, paint-accounts, claimCheck-agree, FedAlike, feedPixels-alike}
 use Rattle.scan.specs.FreshScan.{freshOf}
 use Rattle.scan.specs.Feed.{opening, fedTo, feedOf}
 use Rattle.claim.specs.Claim.{claimRefusal, claimOf}

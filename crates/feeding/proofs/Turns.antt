@@ -3,22 +3,19 @@
 --     feeding-start, -on                before the first account, and behind an account that is accepted
 --     feeding-stop, -end                an account is refused, or none is left
 use mathlib.Core.Path.{_≡_, _∙_, refl, ap, sym}
-use mathlib.Core.Bool.{Bool, true, false}
 use mathlib.Core.List.{List, [], _∷_}
 use Prim.Native.Nat.{ℕ, _+_, _-_, _^_, _<_}
 use native.Mathlib.Numerals.{add-one}
 use native.Mathlib.Decide.{decLt}
 use native.Mathlib.Omega.{arith}
-use lib.Dec.{ltb, eqb}
 use lib.ListN.{length, drop, getD}
 use lib.Seq.{drop-cons, drop-length}
-use Rattle.basics.specs.Choice.{if}
-use Rattle.refusal.specs.Refusal.{accepted, scanFull, accountTooLarge, slotsExceeded}
-use Rattle.tile.specs.Tile.{tileOf, highestAccount}
+use Rattle.refusal.specs.Refusal.{accepted}
+use Rattle.refusal.proofs.CheckLaws.{unless-on, unless-off}
+use Rattle.tile.specs.Tile.{tileOf}
 use Rattle.tile.specs.Slots.{tilesIn}
 use Rattle.tile.proofs.SlotTiles.{tilesIn-in}
 use Rattle.quadtree.specs.Raster.{accountAt}
-use Rattle.quadtree.specs.Quadtree.{quadtree}
 use Rattle.quadtree.proofs.Tiling.{on-corner, placed}
 use Rattle.quadtree.proofs.ValidLaws.{valid-quadrant, valid-quadtree, valid-tiling}
 use Rattle.bed.specs.declared.Kind.the-variants.{Morton}
@@ -28,46 +25,20 @@ use Rattle.bed.specs.Bed as bed
 use Rattle.merging.specs.Merging.{tiles}
 use Rattle.gap.specs.Gap.{held, Fits, Low}
 use Rattle.gap.proofs.Parts.{held-front}
-use Rattle.feeding.specs.Feeding.{Trails, bedOf, pixelCheck, Holds, SteppedOn, Stepped, Opened, FedTo}
+use Rattle.feeding.specs.Shown.{shownBed}
+use Rattle.feeding.specs.Feeding.{Trails, Holds, SteppedOn, Stepped, Opened, FedTo}
 use Rattle.feeding.specs.declared.Step.{Step}
 use Rattle.feeding.proofs.NextPlace.{holds-next}
 use Rattle.feeding.proofs.Steps.{check-full}
 
--- three checks in turn, as a refusal and as what is stopped by it
-abbrev refusalOf : Bool → Bool → Bool → ℕ
-refusalOf p q r = if p scanFull (if q accountTooLarge (if r slotsExceeded accepted))
-
-turn-stop : {A : Type 0} (p q r : Bool) (g : ℕ → A) (x : A) → (refusalOf p q r ≡ accepted → ⊥) → if p (g scanFull) (if q (g accountTooLarge) (if r (g slotsExceeded) x)) ≡ g (refusalOf p q r)
-unfolding if
-turn-stop true q r g x h = refl
-turn-stop false true r g x h = refl
-turn-stop false false true g x h = refl
-turn-stop false false false g x h = absurd (h refl)
-
-turn-on : {A : Type 0} (p q r : Bool) (g : ℕ → A) (x : A) → refusalOf p q r ≡ accepted → if p (g scanFull) (if q (g accountTooLarge) (if r (g slotsExceeded) x)) ≡ x
-unfolding if
-turn-on true q r g x h = absurd (omega arith)
-turn-on false true r g x h = absurd (omega arith)
-turn-on false false true g x h = absurd (omega arith)
-turn-on false false false g x h = refl
-
 module _ (m k : ℕ) (b : bed.Bed) (a : ℕ) (bytes : List ℕ) where
-  abbrev full : Bool
-  full = eqb (b .scanned) (4 ^ b .order)
+  pixel-stop : (bed.pixelCheck m b a ≡ accepted → ⊥) → bed.feedPixels m k b (a ∷ bytes) ≡ bed.stopped (bed.pixelCheck m b a) k b
+  unfolding bed.feedPixels
+  pixel-stop h = unless-off _ _ _ h
 
-  abbrev over : Bool
-  over = ltb m (length (quadtree (b .order) (bed.putPixel b a .account)))
-
-  abbrev next : bed.Fed
-  next = bed.feedPixels m (k + 1) (bed.putPixel b a) bytes
-
-  pixel-stop : (pixelCheck m b a ≡ accepted → ⊥) → bed.feedPixels m k b (a ∷ bytes) ≡ bed.stopped (pixelCheck m b a) k b
-  unfolding bed.feedPixels pixelCheck
-  pixel-stop h = turn-stop full (ltb highestAccount a) over (λ r. bed.stopped r k b) next h
-
-  pixel-on : pixelCheck m b a ≡ accepted → bed.feedPixels m k b (a ∷ bytes) ≡ next
-  unfolding bed.feedPixels pixelCheck
-  pixel-on h = turn-on full (ltb highestAccount a) over (λ r. bed.stopped r k b) next h
+  pixel-on : bed.pixelCheck m b a ≡ accepted → bed.feedPixels m k b (a ∷ bytes) ≡ bed.feedPixels m (k + 1) (bed.putPixel b a) bytes
+  unfolding bed.feedPixels
+  pixel-on h = unless-on _ _ _ h
 
 pub record Feeding (c : Scan) (slots bytes : List ℕ) (k p : ℕ) (s : List ℕ) (i b : ℕ) : Type 0 where
   pub raster : ℕ → ℕ
@@ -75,7 +46,7 @@ pub record Feeding (c : Scan) (slots bytes : List ℕ) (k p : ℕ) (s : List ℕ
   pub trails : Trails (c .kind) s i b p
   pub long : length s ≡ length slots
   pub holds : Holds (c .kind) (c .order) p raster (tiles (held s i b))
-  pub same : bed.feedPixels (length slots) 0 (bed.shownBed c slots) bytes ≡ bed.feedPixels (length slots) k (bedOf (c .kind) (c .order) p raster) (drop k bytes)
+  pub same : bed.feedPixels (length slots) 0 (shownBed c slots) bytes ≡ bed.feedPixels (length slots) k (bed.bedOf (c .kind) (c .order) p raster) (drop k bytes)
 
 -- in Morton order a tile of the list starts at a pixel that is scanned, since it is somebody's
 last-scanned : (c : Scan) (slots : List ℕ) → Opened c slots → c .kind ≡ Morton → Low slots (c .tiles) (c .pixels)
@@ -102,9 +73,9 @@ feeding-start c slots bytes o = record {
 
 module _ {c : Scan} {slots bytes : List ℕ} {k p : ℕ} {s : List ℕ} {i b : ℕ} (w : Feeding c slots bytes k p s i b) where
   abbrev now : bed.Bed
-  now = bedOf (c .kind) (c .order) p (w .raster)
+  now = bed.bedOf (c .kind) (c .order) p (w .raster)
 
-  pub feeding-end : k ≡ length bytes → FedTo c (bed.feedPixels (length slots) 0 (bed.shownBed c slots) bytes) s (record { number = accepted; taken = k; pixels = p; front = i; back = b })
+  pub feeding-end : k ≡ length bytes → FedTo c (bed.feedPixels (length slots) 0 (shownBed c slots) bytes) s (record { number = accepted; taken = k; pixels = p; front = i; back = b })
   unfolding bed.feedPixels
   feeding-end e =
       let d : drop k bytes ≡ [] = rw e (drop-length bytes) in
@@ -118,7 +89,7 @@ module _ {c : Scan} {slots bytes : List ℕ} {k p : ℕ} {s : List ℕ} {i b : �
     on = rw (w .long) at (step .on (w .raster) (w .holds))
 
     pub feeding-stop : (r .number ≡ accepted → ⊥) →
-        FedTo c (bed.feedPixels (length slots) 0 (bed.shownBed c slots) bytes) t (record { number = r .number; taken = k; pixels = p; front = r .front; back = r .back })
+        FedTo c (bed.feedPixels (length slots) 0 (shownBed c slots) bytes) t (record { number = r .number; taken = k; pixels = p; front = r .front; back = r .back })
     feeding-stop q =
         let e = pixel-stop (length slots) k now a (drop (k + 1) bytes) (λ z. q (on .number ∙ z)) in
         rw (w .same, split, e) (record { number = on .number; taken = refl; pixels = refl; kind = refl; order = refl; fits = step .fits; list = on .kept q ∙ w .holds .is })

@@ -5,9 +5,10 @@ ghost use lib.ListN.{length};
 ghost use Rattle.morton.specs.Morton.{morton, sideBits};
 ghost use Rattle.tile.specs.Tile.{highestOrder, highestAccount};
 ghost use Rattle.bed.specs.Places.{pixelAt};
-ghost use Rattle.bed.specs.Bed.{shownBed, feedPixels};
+ghost use Rattle.bed.specs.Bed.{feedPixels};
 ghost use Rattle.merging.specs.Merging.{Levels};
 ghost use Rattle.gap.specs.Gap.{Fits, Placed};
+ghost use Rattle.feeding.specs.Shown.{shownBed};
 ghost use Rattle.feeding.specs.Feeding.{AtPlace, Trails, Stepped, Opened, FedTo};
 
 // A pixel's Morton number, and its levels: the size of the largest block that ends with it, which is as often as it can merge.

@@ -2,62 +2,48 @@
 --     wordsCheck-valid   words are accepted just where their tiles are a valid list
 --     listCheck-valid    the offered call accepts just an order, a count and a valid list that are within bounds
 --     listCheck-filled   a valid list that is left in slots is accepted from them
-use mathlib.Core.Path.{_≡_, refl}
+use mathlib.Core.Path.{_≡_, refl, _∙_}
 use mathlib.Core.Logic.{_↔_}
 use mathlib.Core.List.{List, [], _∷_, map, reverseAux}
-use Prim.Native.Nat.{ℕ, suc, _^_, _≤_, _<_}
+use Prim.Native.Nat.{ℕ, _≤_}
 use native.Mathlib.Omega.{arith}
 use lib.ListN.{length, take}
-use Rattle.basics.proofs.Tests.{test-leb, test-and, test-not}
-use Rattle.refusal.specs.Refusal.{accepted, orderTooLarge, countAboveSlots, highBitsSet, sizeAboveOrder, cornerInvalid, accountZero, tilesOverlap, siblingsUnmerged}
-use Rattle.refusal.proofs.CheckLaws.{must-pass, must-inv}
-use Rattle.tile.specs.Tile.{Tile, tileOf, wordLimit, highestOrder, highestAccount}
+use Rattle.basics.proofs.Tests.{test-leb, test-not}
+use Rattle.refusal.specs.Refusal.{accepted, orderTooLarge, countAboveSlots, siblingsUnmerged}
+use Rattle.refusal.proofs.CheckLaws.{must-pass, must-inv, else-on, else-inv}
+use Rattle.tile.specs.Tile.{Tile, tileOf, highestOrder, highestAccount}
 use Rattle.tile.specs.Slots.{tilesIn, filled}
-use Rattle.tile.proofs.TileLaws.{tileOf-corner-low}
 use Rattle.tile.proofs.SlotsLaws.{filled-length, tilesIn-filled}
 use Rattle.quadtree.specs.Raster.{_∈_}
 use Rattle.quadtree.specs.Valid.{Sound, Chain, end, link, Valid}
-use Rattle.quadtree.proofs.Alignment.{area-mono, test-aligned}
 use Rattle.quadtree.proofs.Siblings.{Four, NoFour, merged-no-four, no-four-merged}
 use Rattle.quadtree.proofs.ValidLaws.{valid-quadrant}
-use Rattle.listcheck.specs.ListCheck.{ended, tileCheck, wordCheck, wordsCheck, listCheck}
+use Rattle.listcheck.specs.ListCheck.{ended, wordCheck, wordsCheck, listCheck}
+use Rattle.listcheck.proofs.OneWord.{sound-passed, sound-passes}
 use Rattle.listcheck.proofs.LastOfFour.{Last, test-last}
 
--- what a tile that passes has
-record Passed (n : ℕ) (seen : List Tile) (t : Tile) (rest : ℕ) : Type 0 where
-  sound : Sound n (ended seen) t
-  merged : Last seen t → ⊥
+-- what a word that passes has
+record Passed (n : ℕ) (seen : List Tile) (w rest : ℕ) : Type 0 where
+  sound : Sound n (ended seen) (tileOf w)
+  merged : Last seen (tileOf w) → ⊥
   on : rest ≡ accepted
 
-module _ (n : ℕ) (seen : List Tile) (t : Tile) (rest : ℕ) where
-  passed : tileCheck n seen t rest ≡ accepted → Passed n seen t rest
-  unfolding tileCheck
+module _ (n : ℕ) (seen : List Tile) (w rest : ℕ) where
+  passed : wordCheck n seen w rest ≡ accepted → Passed n seen w rest
+  unfolding wordCheck
   passed e =
-      let a = must-inv (test-leb (t .size) n) (omega arith) e in
-      let b = must-inv (test-and (test-leb (suc (t .corner)) (4 ^ n)) (test-aligned (t .size) (t .corner))) (omega arith) (a .1) in
-      let c = must-inv (test-leb 1 (t .account)) (omega arith) (b .1) in
-      let d = must-inv (test-leb (ended seen) (t .corner)) (omega arith) (c .1) in
-      let g = must-inv (test-not (test-last seen t)) (omega arith) (d .1) in
-      record { sound = record { quadrant = record { fits = a .0; inside = b .0 .0; aligned = b .0 .1; owned = c .0 }; after = d .0 }; merged = g .0; on = g .1 }
+      let s = else-inv _ _ e in
+      let l = must-inv (test-not (test-last seen (tileOf w))) (omega arith) (s .1) in
+      record { sound = sound-passed n (ended seen) w (s .0); merged = l .0; on = l .1 }
 
-  passes : Passed n seen t rest → tileCheck n seen t rest ≡ accepted
-  unfolding tileCheck
-  passes p =
-      let q = p .sound .quadrant in
-      must-pass sizeAboveOrder (test-leb (t .size) n) (q .fits)
-      (must-pass cornerInvalid (test-and (test-leb (suc (t .corner)) (4 ^ n)) (test-aligned (t .size) (t .corner))) (q .inside, q .aligned)
-      (must-pass accountZero (test-leb 1 (t .account)) (q .owned)
-      (must-pass tilesOverlap (test-leb (ended seen) (t .corner)) (p .sound .after)
-      (must-pass siblingsUnmerged (test-not (test-last seen t)) (p .merged) (p .on)))))
-
--- a word whose tile lies in the bed has no high bit set
-word-low : (n w : ℕ) → n ≤ highestOrder → tileOf w .corner < 4 ^ n → w < wordLimit
-word-low n w h l = let m : 4 ^ n ≤ 4 ^ highestOrder = area-mono h in tileOf-corner-low w (omega arith)
+  passes : n ≤ highestOrder → Passed n seen w rest → wordCheck n seen w rest ≡ accepted
+  unfolding wordCheck
+  passes h p = else-on _ _ (sound-passes n (ended seen) w h (p .sound)) ∙ must-pass siblingsUnmerged (test-not (test-last seen (tileOf w))) (p .merged) (p .on)
 
 module _ (n : ℕ) where
-  first : (seen : List Tile) (w : ℕ) (ws : List ℕ) → wordsCheck n seen (w ∷ ws) ≡ accepted → Passed n seen (tileOf w) (wordsCheck n (tileOf w ∷ seen) ws)
-  unfolding wordsCheck wordCheck
-  first seen w ws e = passed n seen (tileOf w) _ (must-inv (test-leb (suc w) wordLimit) (omega arith) e .1)
+  first : (seen : List Tile) (w : ℕ) (ws : List ℕ) → wordsCheck n seen (w ∷ ws) ≡ accepted → Passed n seen w (wordsCheck n (tileOf w ∷ seen) ws)
+  unfolding wordsCheck
+  first seen w ws e = passed n seen w _ e
 
   accepted-chain : (seen : List Tile) (ws : List ℕ) → wordsCheck n seen ws ≡ accepted → Chain n (ended seen) (map tileOf ws)
   unfolding ended
@@ -87,11 +73,10 @@ module _ (n : ℕ) where
   not-last (z ∷ y ∷ w ∷ seen) x ts h b = no-four-behind seen (w ∷ y ∷ z ∷ x ∷ ts) h .0 b
 
   chain-accepted : n ≤ highestOrder → (seen : List Tile) (ws : List ℕ) → Chain n (ended seen) (map tileOf ws) → NoFour (reverseAux seen (map tileOf ws)) → wordsCheck n seen ws ≡ accepted
-  unfolding wordsCheck wordCheck ended
+  unfolding wordsCheck ended
   chain-accepted o seen [] c h = refl
   chain-accepted o seen (w ∷ ws) (link p r) h =
-      must-pass highBitsSet (test-leb (suc w) wordLimit) (word-low n w o (p .quadrant .inside))
-      (passes n seen (tileOf w) _ (record { sound = p; merged = not-last seen (tileOf w) (map tileOf ws) h; on = chain-accepted o (tileOf w ∷ seen) ws r h }))
+      passes n seen w _ o (record { sound = p; merged = not-last seen (tileOf w) (map tileOf ws) h; on = chain-accepted o (tileOf w ∷ seen) ws r h })
 
   pub wordsCheck-valid : n ≤ highestOrder → (ws : List ℕ) → (wordsCheck n [] ws ≡ accepted) ↔ Valid n (map tileOf ws)
   unfolding ended

@@ -1,6 +1,7 @@
 -- List checking (document 01, "Refusals by the place of the check": 1, 2 and 11 to 16). Definitions only.
 --     follows t u               u starts where t ends, and has its size and account
 --     lastOfFour seen t         t is the last of four siblings, whose others are the three tiles ahead of it
+--     soundCheck n lo w         the first of rows 11 to 15 that the word w breaks, where the tile ahead of it ends at lo
 --     wordCheck n seen w rest   the first row that the word w breaks behind the tiles `seen`, or what the rest says
 --     wordsCheck n seen ws      the words in turn: the first bad word decides, and in it the first bad row
 --     listCheck n t slots       the offered call, of an order, a tile count and slots
@@ -11,7 +12,7 @@ use Prim.Native.Nat.{ℕ, _+_, _^_}
 use lib.Dec.{leb, ltb, eqb}
 use lib.ListN.{length, take}
 use Rattle.refusal.specs.Refusal.{accepted, orderTooLarge, countAboveSlots, highBitsSet, sizeAboveOrder, cornerInvalid, accountZero, tilesOverlap, siblingsUnmerged}
-use Rattle.refusal.specs.Checks.{must}
+use Rattle.refusal.specs.Checks.{must, orElse}
 use Rattle.tile.specs.Tile.{Tile, stop, tileOf, wordLimit, highestOrder}
 use Rattle.quadtree.specs.Raster.{aligned}
 
@@ -29,17 +30,16 @@ unfoldable pub ended : List Tile → ℕ
 ended [] = 0
 ended (t ∷ seen) = stop t
 
--- 12 to 16
-unfoldable pub tileCheck : ℕ → List Tile → Tile → ℕ → ℕ
-tileCheck n seen t rest =
-    must (leb (t .size) n) sizeAboveOrder
-    (must (ltb (t .corner) (4 ^ n) && aligned (t .size) (t .corner)) cornerInvalid
-    (must (ltb 0 (t .account)) accountZero
-    (must (leb (ended seen) (t .corner)) tilesOverlap
-    (must (not (lastOfFour seen t)) siblingsUnmerged rest))))
+unfoldable pub soundCheck : ℕ → ℕ → ℕ → ℕ
+soundCheck n lo w =
+    must (ltb w wordLimit) highBitsSet
+    (must (leb (tileOf w .size) n) sizeAboveOrder
+    (must (ltb (tileOf w .corner) (4 ^ n) && aligned (tileOf w .size) (tileOf w .corner)) cornerInvalid
+    (must (ltb 0 (tileOf w .account)) accountZero
+    (must (leb lo (tileOf w .corner)) tilesOverlap accepted))))
 
 unfoldable pub wordCheck : ℕ → List Tile → ℕ → ℕ → ℕ
-wordCheck n seen w rest = must (ltb w wordLimit) highBitsSet (tileCheck n seen (tileOf w) rest)
+wordCheck n seen w rest = orElse (soundCheck n (ended seen) w) (must (not (lastOfFour seen (tileOf w))) siblingsUnmerged rest)
 
 unfoldable pub wordsCheck : ℕ → List Tile → List ℕ → ℕ
 wordsCheck n seen [] = accepted

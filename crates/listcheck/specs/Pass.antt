@@ -1,5 +1,4 @@
 -- What one pass over a list keeps of the tiles that it has seen, which the contracts of its steps cite. Definitions only.
---     soundCheck n lo w    the first of rows 11 to 15 that the word w breaks, where the tile ahead of it ends at lo
 --     joins a t            t is the next sibling of the row that `a` tells of
 --     nextRow a t          how many siblings in a row end with t, from the first of the four on; 0 where the row lacks its first
 --     aheadOf seen         what the pass keeps of the tiles seen, which are given last first
@@ -9,24 +8,15 @@
 use mathlib.Core.Path.{_≡_}
 use mathlib.Core.Bool.{Bool, _&&_}
 use mathlib.Core.List.{List, [], _∷_}
-use Prim.Native.Nat.{ℕ, _+_, _^_, _≤_}
-use lib.Dec.{leb, ltb, eqb}
+use Prim.Native.Nat.{ℕ, _+_, _≤_}
+use lib.Dec.{ltb, eqb}
 use Rattle.basics.specs.Choice.{if}
-use Rattle.refusal.specs.Refusal.{accepted, highBitsSet, sizeAboveOrder, cornerInvalid, accountZero, tilesOverlap}
-use Rattle.refusal.specs.Checks.{must}
-use Rattle.tile.specs.Tile.{Tile, stop, tileOf, wordLimit}
+use Rattle.refusal.specs.Refusal.{accepted}
+use Rattle.tile.specs.Tile.{Tile, stop, tileOf}
 use Rattle.quadtree.specs.Raster.{aligned}
 use Rattle.listcheck.specs.declared.Ahead.{Ahead}
 use Rattle.listcheck.specs.declared.Judged.{Judged}
 use Rattle.listcheck.specs.ListCheck.{wordCheck}
-
-unfoldable pub soundCheck : ℕ → ℕ → ℕ → ℕ
-soundCheck n lo w =
-    must (ltb w wordLimit) highBitsSet
-    (must (leb (tileOf w .size) n) sizeAboveOrder
-    (must (ltb (tileOf w .corner) (4 ^ n) && aligned (tileOf w .size) (tileOf w .corner)) cornerInvalid
-    (must (ltb 0 (tileOf w .account)) accountZero
-    (must (leb lo (tileOf w .corner)) tilesOverlap accepted))))
 
 unfoldable pub joins : Ahead → Tile → Bool
 joins a t = ltb 0 (a .row) && (eqb (t .corner) (a .stop) && (eqb (t .size) (a .size) && eqb (t .account) (a .account)))

@@ -4,8 +4,8 @@ ghost use mathlib.Core.List.{List, []};
 ghost use Prim.Native.Nat.{_≤_};
 ghost use lib.ListN.{length, take};
 ghost use Rattle.tile.specs.Tile.{Tile, tile, highestOrder};
-ghost use Rattle.listcheck.specs.ListCheck.{wordsCheck, listCheck};
-ghost use Rattle.listcheck.specs.Pass.{soundCheck, nextRow, Knows, Stepped};
+ghost use Rattle.listcheck.specs.ListCheck.{soundCheck, wordsCheck, listCheck};
+ghost use Rattle.listcheck.specs.Pass.{nextRow, Knows, Stepped};
 
 // What the pass keeps of the tiles ahead: where the last one stops, its size and account, and how many siblings in a row,
 // from the first of the four on, end with it.

@@ -15,12 +15,11 @@ use Rattle.tile.specs.Slots.{tilesIn}
 use Rattle.quadtree.specs.Raster.{accountAt}
 use Rattle.reading.specs.Lookup.{lookupCheck}
 use Rattle.reading.proofs.LookupLaws.{Point, lookupCheck-passed, point-number}
-use Rattle.rights.specs.Rights.{mayPlace, rightsCheck, rightsOf}
-use Rattle.rights.specs.Table.{askerCheck}
+use Rattle.rights.specs.Rights.{mayPlace, askerCheck, rightsCheck, rightsOf}
 
 module _ (n t : ℕ) (slots : List ℕ) (c r p : ℕ) where
   pub rightsCheck-first : (x y z : ℕ) → x ≡ lookupCheck n t slots c r → y ≡ askerCheck p → z ≡ orElse x y → z ≡ rightsCheck n t slots c r p
-  unfolding rightsCheck askerCheck
+  unfolding rightsCheck
   rightsCheck-first x y z e h g = rw (g, e, h)
 
   module _ (z : ℕ) (is : z ≡ rightsCheck n t slots c r p) where

@@ -3,6 +3,7 @@
 --     tableRow c             the row of the paper's table for an asking class
 --     pixelKind p q          the column of the table for the asking account p and the pixel's account q
 --     mayPlace p q           the table's answer
+--     askerCheck p           34
 --     rightsCheck ..         1, 2, 11 to 16, then 31, then 34
 --     rightsOf ..            the offered call
 use mathlib.Core.Bool.{Bool, true, false, _&&_}
@@ -44,8 +45,11 @@ pixelKind p q = if (eqb p q) 0 (if (eqb q 0) 1 (heldBy (classOf q)))
 unfoldable pub mayPlace : ℕ → ℕ → Bool
 mayPlace p q = getD (tableRow (classOf p)) (pixelKind p q) false
 
+unfoldable pub askerCheck : ℕ → ℕ
+askerCheck p = must (ltb 0 p && leb p highestAccount) askerInvalid accepted
+
 unfoldable pub rightsCheck : ℕ → ℕ → List ℕ → ℕ → ℕ → ℕ → ℕ
-rightsCheck n t slots c r p = orElse (lookupCheck n t slots c r) (must (ltb 0 p && leb p highestAccount) askerInvalid accepted)
+rightsCheck n t slots c r p = orElse (lookupCheck n t slots c r) (askerCheck p)
 
 unfoldable pub rightsOf : ℕ → ℕ → List ℕ → ℕ → ℕ → ℕ → Right
 rightsOf n t slots c r p =

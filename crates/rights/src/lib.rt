@@ -2,8 +2,8 @@
 ghost use mathlib.Core.Path.{_≡_};
 ghost use Prim.Native.Nat.{_<_};
 ghost use Rattle.refusal.specs.Checks.{orElse};
-ghost use Rattle.rights.specs.Rights.{classOf, pixelKind, mayPlace, rightsOf};
-ghost use Rattle.rights.specs.Table.{rowOf, askerCheck};
+ghost use Rattle.rights.specs.Rights.{classOf, pixelKind, mayPlace, askerCheck, rightsOf};
+ghost use Rattle.rights.specs.Table.{rowOf};
 
 // The rights call's answer.
 #[repr(C)]
@@ -63,7 +63,7 @@ fn pixel_kind(asking: u8, holder: u8) -> usize
 }
 
 // The table's answer for the asking account at a pixel of the account `holder`.
-pub fn may_place(asking: u8, holder: u8) -> bool
+fn may_place(asking: u8, holder: u8) -> bool
     ensures { λ r. ⌜ r ≡ mayPlace asking holder ⌝ }
 {
     let class = class_of(asking);

@@ -24,6 +24,7 @@ use Rattle.bed.proofs.BedLaws.{Room, feedPixels-room}
 use Rattle.merging.specs.Merging.{tiles}
 use Rattle.gap.specs.Gap.{held}
 use Rattle.gap.proofs.Parts.{held-length}
+use Rattle.feeding.specs.Shown.{shownBed}
 use Rattle.feeding.specs.Feeding.{FedTo}
 use Rattle.feeding.specs.declared.Run.{Run}
 use Rattle.scan.specs.FreshScan.{freshOf}
@@ -33,7 +34,7 @@ use Rattle.scan.specs.declared.Fed.{Fed}
 
 module _ (c : Scan) (slots bytes : List ℕ) where
   abbrev plain : bed.Fed
-  plain = bed.feedPixels (length slots) 0 (bed.shownBed c slots) bytes
+  plain = bed.feedPixels (length slots) 0 (shownBed c slots) bytes
 
   pub feed-refused : (r : ℕ) → r ≡ opening c slots → (r ≡ accepted → ⊥) → _≡_ {A = After Fed} (record { answer = record { number = r; taken = 0; scan = c }; storage = slots }) (feedOf c slots bytes)
   unfolding feedOf
@@ -62,14 +63,14 @@ module _ (c : Scan) (slots bytes : List ℕ) where
 
 pub freshOf-blank : (k : Kind) (n : ℕ) (slots : List ℕ) → (freshOf k n slots .answer .scan .tiles ≡ 0) × (length (freshOf k n slots .storage) ≡ length slots)
 unfolding freshOf
-freshOf-blank k n slots = by-unless (λ (r : After Fresh). (r .answer .scan .tiles ≡ 0) × (length (r .storage) ≡ length slots)) _ (λ r. (refl, refl)) (refl, length-replicate (length slots) 0)
+freshOf-blank k n slots = by-unless (λ (r : After Fresh). (r .answer .scan .tiles ≡ 0) × (length (r .storage) ≡ length slots)) _ (λ r. (refl, refl)) (λ q. (refl, length-replicate (length slots) 0))
 
-blank-room : (c : Scan) (slots : List ℕ) (m : ℕ) → c .tiles ≡ 0 → Room m (bed.shownBed c slots)
+blank-room : (c : Scan) (slots : List ℕ) (m : ℕ) → c .tiles ≡ 0 → Room m (shownBed c slots)
 unfolding tilesIn accountAt
 blank-room c slots m e = rw (e, blank-quadtree (c .order)) (omega arith)
 
 pub feedOf-room : (c : Scan) (slots bytes : List ℕ) → c .tiles ≡ 0 → (feedOf c slots bytes .answer .scan .tiles ≤ length slots) × (length (feedOf c slots bytes .storage) ≡ length slots)
 unfolding feedOf fedTo
 feedOf-room c slots bytes e =
-    let h = feedPixels-room (length slots) 0 (bed.shownBed c slots) bytes (blank-room c slots (length slots) e) in
-    by-unless (λ (r : After Fed). (r .answer .scan .tiles ≤ length slots) × (length (r .storage) ≡ length slots)) (opening c slots) (λ r. (omega arith, refl)) (h, filled-length (length slots) _ h)
+    let h = feedPixels-room (length slots) 0 (shownBed c slots) bytes (blank-room c slots (length slots) e) in
+    by-unless (λ (r : After Fed). (r .answer .scan .tiles ≤ length slots) × (length (r .storage) ≡ length slots)) (opening c slots) (λ r. (omega arith, refl)) (λ q. (h, filled-length (length slots) _ h))

@@ -1,4 +1,4 @@
--- One tile of check 22, which the contract of its test cites. Definitions only.
+-- Check 22 of one tile. Definitions only.
 --     unscannedIn k n s t   the tile t covers a pixel that is not scanned once s pixels are
 use mathlib.Core.Bool.{Bool, not}
 use Prim.Native.Nat.{ℕ, _^_}

@@ -8,7 +8,6 @@ use mathlib.Core.List.{List, [], _∷_}
 use Prim.Native.Nat.{ℕ, _^_}
 use lib.Dec.{leb}
 use lib.ListN.{length}
-use Rattle.basics.specs.Choice.{some}
 use Rattle.refusal.specs.Refusal.{accepted, scannedTooLarge, tileUnscanned}
 use Rattle.refusal.specs.Checks.{must, orElse, unless, After}
 use Rattle.tile.specs.Tile.{Tile}
@@ -16,13 +15,15 @@ use Rattle.tile.specs.Slots.{tilesIn, filled}
 use Rattle.quadtree.specs.Quadtree.{quadtree}
 use Rattle.listcheck.specs.ListCheck.{listCheck}
 use Rattle.bed.specs.declared.Scan.{Scan}
-use Rattle.bed.specs.Places.{scanOf, scanned}
+use Rattle.bed.specs.Places.{scanOf}
 use Rattle.bed.specs.Bed as bed
+use Rattle.feeding.specs.Shown.{shownBed}
 use Rattle.scan.specs.declared.Fed.{Fed}
+use Rattle.scan.specs.Covering.{unscannedIn}
 
 unfoldable pub coversUnscanned : Scan → List Tile → Bool
 coversUnscanned c [] = false
-coversUnscanned c (t ∷ ts) = some (λ z. not (scanned (c .kind) (c .order) (c .pixels) z)) (t .corner) (4 ^ t .size) || coversUnscanned c ts
+coversUnscanned c (t ∷ ts) = unscannedIn (c .kind) (c .order) (c .pixels) t || coversUnscanned c ts
 
 unfoldable pub opening : Scan → List ℕ → ℕ
 opening c slots =
@@ -43,4 +44,4 @@ unfoldable pub feedOf : Scan → List ℕ → List ℕ → After Fed
 feedOf c slots bytes =
     unless (opening c slots)
     (λ number. record { answer = record { number = number; taken = 0; scan = c }; storage = slots })
-    (fedTo (length slots) (bed.feedPixels (length slots) 0 (bed.shownBed c slots) bytes))
+    (fedTo (length slots) (bed.feedPixels (length slots) 0 (shownBed c slots) bytes))

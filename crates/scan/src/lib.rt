@@ -29,7 +29,7 @@ pub struct Fed {
 pub fn fresh_scan(kind: bed::Kind, order: u32, slots: &mut [u32]) -> Fresh
     ensures { λ r. ⌜ _≡_ {A = After Fresh} (record { answer = r; storage = now (slots .exit) }) (freshOf kind order (now (slots .entry))) ⌝ }
 {
-    if tile::HIGHEST_ORDER < order {
+    if bed::Scan::HIGHEST_ORDER < order {
         return Fresh {
             number: refusal::ORDER_TOO_LARGE,
             scan: bed::Scan::fresh(kind, 0),

@@ -10,7 +10,7 @@ ghost use Rattle.quadtree.specs.Valid.{Valid};
 ghost use Rattle.roster.specs.Roster.{covered, rosterOf};
 ghost use Rattle.roster.specs.Accounts.{SetOf};
 ghost use Rattle.sections.specs.OneEntry.{entryOf};
-ghost use Rattle.sections.specs.Sections.{wordBytes, wordsBytes, entriesBytes};
+ghost use Rattle.sections.specs.Sections.{wordBytes, wordsBytes, entriesBytes, rosterBytes};
 
 // Somebody's accounts go from it to the highest.
 const LOWEST_ACCOUNT: u8 = 1;
@@ -109,7 +109,7 @@ fn put_entry(file: &mut [u8], p: usize, account: u8, pixels: u32) -> usize
 }
 
 // The roster's entries, by rising account, into the bytes from `at` on.
-pub fn put_entries(order: u32, tiles: usize, slots: &[u32], at: usize, file: &mut [u8])
+fn put_entries(order: u32, tiles: usize, slots: &[u32], at: usize, file: &mut [u8])
     requires { ⌜ (order ≤ highestOrder) × (tiles ≤ length (now slots)) × Valid order (tilesIn tiles (now slots)) × (at + 5 * length (rosterOf (tilesIn tiles (now slots))) ≤ length (now file)) ⌝ }
     ensures { λ r. ⌜ now (file .exit) ≡ sets (now (file .entry)) at (entriesBytes (rosterOf (tilesIn tiles (now (slots .entry))))) ⌝ }
 {
@@ -121,4 +121,13 @@ pub fn put_entries(order: u32, tiles: usize, slots: &[u32], at: usize, file: &mu
         p = put_entry(file, p, account, pixels);
         account += 1;
     }
+}
+
+// The roster section into its part of a file: the count of its entries, and the entries behind it.
+pub fn put_roster(order: u32, tiles: usize, slots: &[u32], accounts: usize, section: &mut [u8])
+    requires { ⌜ (order ≤ highestOrder) × (tiles ≤ length (now slots)) × Valid order (tilesIn tiles (now slots)) × (accounts ≡ length (rosterOf (tilesIn tiles (now slots)))) × (1 + 5 * accounts ≤ length (now section)) ⌝ }
+    ensures { λ r. ⌜ now (section .exit) ≡ sets (now (section .entry)) 0 (rosterBytes (rosterOf (tilesIn tiles (now (slots .entry))))) ⌝ }
+{
+    section[0] = accounts as u8;
+    put_entries(order, tiles, slots, 1, section);
 }

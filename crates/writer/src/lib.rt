@@ -26,8 +26,7 @@ fn put_file(order: u32, tiles: usize, slots: &[u32], accounts: usize, file: &mut
     sections::put(file, 1, tiles as u32);
     sections::put_words(tiles, slots, file);
     let at = 5 + 4 * tiles;
-    file[at] = accounts as u8;
-    sections::put_entries(order, tiles, slots, at + 1, file);
+    sections::put_roster(order, tiles, slots, accounts, &mut file[at..]);
 }
 
 // The offered call: writes the file of a list and answers its length, or answers the first refusal and changes no byte.

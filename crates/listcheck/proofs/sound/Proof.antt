@@ -2,7 +2,7 @@
 use borrow.Author.Tests.{lt-leb, le-leb, lt-ltb, le-ltb, eq-eqb, ne-eqb}
 use Rattle.quadtree.specs.Raster.{aligned}
 use Rattle.refusal.specs.Checks.{must}
-use Rattle.listcheck.specs.Pass.{soundCheck}
+use Rattle.listcheck.specs.ListCheck.{soundCheck}
 use Rattle.quadtree.proofs.Alignment.{area-pos}
 use mathlib.Core.Path.{sym}
 use native.Mathlib.Omega.{arith}

@@ -2,7 +2,7 @@
 use borrow.Author.Tests.{lt-ltb, le-ltb, lt-leb, le-leb}
 use Rattle.refusal.specs.Checks.{must}
 use Rattle.tile.specs.Tile.{highestAccount}
-use Rattle.rights.specs.Table.{askerCheck}
+use Rattle.rights.specs.Rights.{askerCheck}
 use native.Mathlib.Omega.{arith}
 use Rattle.rights.proofs.asker_check.Statement.{statement}
 use Rattle.rights.proofs.asker_check.Tie as tie
