@@ -6,10 +6,11 @@
 --     to-le            a list has no more tiles ahead of a number than tiles
 --     inside-none, inside-large, inside-rest   how many tiles lie inside, by the tile at the part's position
 --     partOf-refused, partOf-accepted   the companion's answer; partOf-fits, the part lies in the slots
+--     slice-place      the place of the part, by its position
 --     sliceOf-cut      the part itself, cut out of the slots
 use mathlib.Core.Path.{_≡_, refl, sym, _∙_, ap}
 use mathlib.Core.List.{List, [], _∷_, List·Memᴰ·head, List·Memᴰ·tail}
-use Prim.Native.Nat.{ℕ, suc, _+_, _-_, _^_, _≤_, _<_}
+use Prim.Native.Nat.{ℕ, suc, _+_, _*_, _-_, _^_, _≤_, _<_}
 use native.Mathlib.Decide.{decLt, decLe}
 use native.Mathlib.Omega.{arith}
 use lib.ListN.{length, take, drop, getD}
@@ -29,7 +30,7 @@ use Rattle.quadtree.proofs.ValidLaws.{valid-quadrant}
 use Rattle.listcheck.proofs.Accepts.{listCheck-valid}
 use Rattle.bed.proofs.BedLaws.{test-blockIn}
 use Rattle.reading.specs.declared.Part.{Part}
-use Rattle.reading.specs.Part.{isAhead, isInside, counted, partCheck, partOf, sliceOf}
+use Rattle.reading.specs.Part.{isAhead, isInside, counted, partCheck, partOf, sliceOf, wordsIn}
 use Rattle.reading.proofs.CountLaws.{test-ahead, test-inside, counted-yes, counted-le, counted-none, ahead-none, slot-past, slot-upto}
 use Rattle.tile.proofs.SlotTiles.{tilesIn-at, getD-in}
 
@@ -145,6 +146,12 @@ module _ (n t : ℕ) (slots : List ℕ) (c k : ℕ) where
         let b = partCheck-passed n t slots c k e in
         rw (partOf-accepted e) (omega (arith, inside-le c k (tilesIn t slots), to-le b _ _ refl refl, b .count))
   ]
+
+  -- behind the place o of the slots, 4 bytes for each word ahead
+  pub slice-place : (p : Part) → p ≡ partOf n t slots c k → (o : ℕ × ℕ) → (o .0, p .position * 4 + o .1) ≡ wordsIn o (partOf n t slots c k .position)
+  slice-place p e o =
+      let h : p .position * 4 + o .1 ≡ o .1 + 4 * p .position = omega arith in
+      rw (← e, h)
 
   -- a stretch of the slots from the part's position on, as long as the part
   pub sliceOf-cut : (p : Part) → p ≡ partOf n t slots c k → take (p .position + p .length - p .position) (drop (p .position) slots) ≡ sliceOf n t slots c k

@@ -3,11 +3,13 @@
 --     counted g ts                  how many tiles of ts pass the test g
 --     partCheck ..                  1, 2, 11 to 16, then 32
 --     partOf n t slots c k          the companion: the part's position, behind all tiles with a smaller corner, and its length
---     sliceOf n t slots c k         the part itself; refused, the empty part at the start of the slots
+--     sliceOf n t slots c k         the words of the part; none if refused
+--     wordsIn p i                   the place i words of 4 bytes into a slice that starts at the place p;
+--                                   a place is a block of memory and a byte offset in it
 -- That the part is the tiles inside, no less and no more, is the law `part-inside`.
 use mathlib.Core.Bool.{Bool, _&&_}
 use mathlib.Core.List.{List, [], _∷_}
-use Prim.Native.Nat.{ℕ, _+_, _^_}
+use Prim.Native.Nat.{ℕ, _+_, _*_, _^_}
 use lib.Dec.{leb, ltb}
 use lib.ListN.{take, drop}
 use Rattle.basics.specs.Choice.{if}
@@ -40,3 +42,6 @@ partOf n t slots c k =
 
 unfoldable pub sliceOf : ℕ → ℕ → List ℕ → ℕ → ℕ → List ℕ
 sliceOf n t slots c k = take (partOf n t slots c k .length) (drop (partOf n t slots c k .position) slots)
+
+abbrev pub wordsIn : ℕ × ℕ → ℕ → ℕ × ℕ
+wordsIn p i = (p .0, p .1 + 4 * i)

@@ -9,7 +9,7 @@ ghost use Rattle.quadtree.specs.Raster.{accountAt};
 ghost use Rattle.quadtree.specs.Quadtree.{Rising};
 ghost use Rattle.quadtree.specs.Valid.{Valid};
 ghost use Rattle.reading.specs.Lookup.{lookupCheck, lookupOf};
-ghost use Rattle.reading.specs.Part.{isAhead, isInside, counted, partCheck, partOf, sliceOf};
+ghost use Rattle.reading.specs.Part.{isAhead, isInside, counted, partCheck, partOf, sliceOf, wordsIn};
 
 // Lookup's answer.
 #[repr(C)]
@@ -141,12 +141,15 @@ pub fn quadrant_part(order: u32, tiles: usize, slots: &[u32], corner: u32, size:
     inside(tiles, slots, corner, size)
 }
 
-// The offered call: the tiles inside a quadrant, as a part of the lent slots; refused, the empty part at their start.
+// The offered call: the tiles inside a quadrant, as a part of the lent slots. It starts as many words into the caller's
+// own memory as the companion's position says, also when empty; refused, that is 0: the empty part at the slots' start.
 pub fn quadrant_slice(order: u32, tiles: usize, slots: &[u32], corner: u32, size: u32) -> &[u32]
+    ensures { λ r. ⌜ r .ptr ≡ wordsIn (slots .entry .ptr) (partOf order tiles (now (slots .entry)) corner size .position) ⌝ }
     ensures { λ r. ⌜ now r ≡ sliceOf order tiles (now (slots .entry)) corner size ⌝ }
 {
     let part = quadrant_part(order, tiles, slots, corner, size);
     let start = part.position;
-    let end = start + part.length;
+    let length = part.length;
+    let end = start + length;
     &slots[start..end]
 }
