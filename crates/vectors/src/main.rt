@@ -1,4 +1,5 @@
-// The worked lines of document 01 that are not starred, run; crates/vectors/stdout has what they must print.
+// The worked lines of document 01 that are not starred, and the one of quadrant parts, run;
+// crates/vectors/stdout has what they must print.
 use bed::Kind;
 use bed::Scan;
 
@@ -16,7 +17,7 @@ fn wide(x: u8) -> usize {
     x as usize
 }
 
-// "M's file has 32 bytes; roster totals 4 for account 5 and 6 for account 9."
+// "M's file has 32 bytes; roster totals 4 for account 5 and 6 for account 9." All four bytes of a total, high byte first.
 fn file_of(scan: Scan, slots: &[u32]) {
     let mut file = [0u8; 64];
     let written = writer::write(scan.order, scan.tiles, slots, &mut file);
@@ -28,12 +29,12 @@ fn file_of(scan: Scan, slots: &[u32]) {
     line(
         b"its roster: account, pixels",
         wide(file[22]),
-        wide(file[26]),
+        items::word_at(&file, 23) as usize,
     );
     line(
         b"its roster: account, pixels",
         wide(file[27]),
-        wide(file[31]),
+        items::word_at(&file, 28) as usize,
     );
 }
 
@@ -50,6 +51,39 @@ fn lookups(scan: Scan, slots: &[u32]) {
         b"M, column 4, row 1: number, account",
         outside.number as usize,
         outside.account as usize,
+    );
+}
+
+// The first word of a part, 0 if it has none.
+fn first(part: &[u32]) -> u32 {
+    if part.len() == 0 {
+        return 0;
+    }
+    part[0]
+}
+
+// "On M, quadrant (4, size 1) is the one tile at position 1; (12, size 0) is empty at position 3."
+// (1, size 1) is no quadrant: 32, and the empty part.
+fn parts(scan: Scan, slots: &[u32]) {
+    let one = reading::quadrant_slice(scan.order, scan.tiles, slots, 4, 1);
+    line(
+        b"M, quadrant 4, size 1: tiles, first word",
+        one.len(),
+        first(one) as usize,
+    );
+    let empty = reading::quadrant_slice(scan.order, scan.tiles, slots, 12, 0);
+    let empty_part = reading::quadrant_part(scan.order, scan.tiles, slots, 12, 0);
+    line(
+        b"M, quadrant 12, size 0: tiles, position",
+        empty.len(),
+        empty_part.position,
+    );
+    let refused = reading::quadrant_slice(scan.order, scan.tiles, slots, 1, 1);
+    let refused_part = reading::quadrant_part(scan.order, scan.tiles, slots, 1, 1);
+    line(
+        b"M, quadrant 1, size 1: tiles, number",
+        refused.len(),
+        refused_part.number as usize,
     );
 }
 
@@ -73,6 +107,7 @@ fn main() {
     line(b"M: number, taken", fed.number as usize, fed.taken);
     file_of(scan, &slots);
     lookups(scan, &slots);
+    parts(scan, &slots);
     account(b"account 63: number, taken", b"\x3f");
     account(b"account 64: number, taken", b"\x40");
 }
