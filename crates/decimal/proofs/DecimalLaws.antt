@@ -1,12 +1,14 @@
 -- Laws of digits, and of digits put into a lent buffer.
 --     digitsBy-most      at most as many digits as there are places
+--     digitsBy-below     a number below 10 ^ j has at most j digits
 --     digitsBy-none      no place, no digit
 --     digitsBy-last      a number below ten is one digit
 --     digitsBy-more      any other has its last digit behind the digits of its tenth
 --     digits-none, digits-last, digits-more    the same of digits put
+--     digits-end         where digits put end at most
 use mathlib.Core.Path.{_≡_, refl}
 use mathlib.Core.List.{List, [], _∷_, _++_}
-use Prim.Native.Nat.{ℕ, zero, suc, _+_, _-_, _/_, _%_, _≤_, _<_}
+use Prim.Native.Nat.{ℕ, zero, suc, _+_, _-_, _/_, _%_, _^_, _≤_, _<_}
 use native.Mathlib.Omega.{arith}
 use lib.ListN.{length, length-append}
 use Rattle.basics.proofs.Tests.{test-leb}
@@ -22,6 +24,16 @@ digitsBy-most (suc k) n =
     by-if (λ (ds : List ℕ). length ds ≤ suc k) (test-leb (suc n) 10) (λ h. omega arith)
     (λ h. omega (arith, length-append (digitsBy k (n / 10)) ((48 + n % 10) ∷ []), digitsBy-most k (n / 10)))
 
+pub digitsBy-below : (j k n : ℕ) → 0 < j → n < 10 ^ j → length (digitsBy k n) ≤ j
+unfolding digitsBy
+digitsBy-below j zero n p h = omega arith
+digitsBy-below zero (suc k) n p h = absurd (omega arith)
+digitsBy-below (suc zero) (suc k) n p h =
+    by-if (λ (ds : List ℕ). length ds ≤ 1) (test-leb (suc n) 10) (λ g. omega arith) (λ g. absurd (omega arith))
+digitsBy-below (suc (suc j)) (suc k) n p h =
+    by-if (λ (ds : List ℕ). length ds ≤ suc (suc j)) (test-leb (suc n) 10) (λ g. omega arith)
+    (λ g. omega (arith, length-append (digitsBy k (n / 10)) ((48 + n % 10) ∷ []), digitsBy-below (suc j) k (n / 10) (omega arith) (omega arith)))
+
 pub digitsBy-none : (k n : ℕ) → k ≡ 0 → digitsBy k n ≡ []
 unfolding digitsBy
 digitsBy-none zero n e = refl
@@ -36,6 +48,9 @@ pub digitsBy-more : (k n : ℕ) → (k ≡ 0 → ⊥) → 10 ≤ n → digitsBy 
 unfolding digitsBy
 digitsBy-more zero n p h = absurd (p refl)
 digitsBy-more (suc k) n p h = let e : suc k - 1 ≡ k = omega arith in rw e (if-no _ _ (test-leb (suc n) 10) (λ g. omega arith))
+
+pub digits-end : (k n : ℕ) {at : ℕ} {old : List ℕ} {end : ℕ} {new : List ℕ} → Written (digitsBy k n) at old end new → end ≤ at + k
+digits-end k n w = omega (arith, w .stop, digitsBy-most k n)
 
 pub digits-none : (k n at : ℕ) (out : List ℕ) → k ≡ 0 → Written (digitsBy k n) at out at out
 digits-none k n at out e = rw (digitsBy-none k n e) (written-none at out)

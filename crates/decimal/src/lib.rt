@@ -4,13 +4,13 @@ ghost use mathlib.Core.List.{_++_};
 ghost use Prim.Native.Nat.{_+_, _<_};
 ghost use lib.ListN.{length};
 ghost use Rattle.text.specs.Written.{Written, countLimit};
-ghost use Rattle.decimal.specs.Decimal.{digitsBy, digits};
-ghost use Rattle.decimal.specs.Lines.{digitsMost, tripleMost, pairLine, tripleLine};
+ghost use Rattle.decimal.specs.Decimal.{digitsBy, digitsMost, digits};
+ghost use Rattle.decimal.specs.Lines.{tripleMost, pairLine, tripleLine};
 
 const LINE_FEED: u8 = b'\n';
 
-// Numbers have at most so many digits.
-const MOST_DIGITS: usize = 10;
+// No number has more digits.
+const DIGITS_MOST: usize = 10;
 
 // The byte of a digit.
 fn digit(d: usize) -> u8
@@ -40,7 +40,7 @@ pub fn put_number(out: &mut [u8], at: usize, n: usize) -> usize
     requires { ⌜ at + digitsMost < countLimit ⌝ }
     ensures { λ r. ⌜ Written (digits n) at (now (out .entry)) r (now (out .exit)) ⌝ }
 {
-    put_digits(out, at, MOST_DIGITS, n)
+    put_digits(out, at, DIGITS_MOST, n)
 }
 
 // Puts a byte string and a number behind it.
@@ -55,7 +55,8 @@ fn put_field(out: &mut [u8], at: usize, ahead: &[u8], n: usize) -> usize
 // Puts a line of two numbers, each behind a byte string.
 pub fn put_pair(out: &mut [u8], at: usize, first: &[u8], m: usize, second: &[u8], n: usize) -> usize
     requires { ⌜ at + length (now first) + length (now second) + tripleMost < countLimit ⌝ }
-    ensures { λ r. ⌜ Written (pairLine (now (first .entry)) m (now (second .entry)) n) at (now (out .entry)) r (now (out .exit)) ⌝ }
+    ensures { λ r. ⌜ Written (pairLine (now (first .entry)) m (now (second .entry)) n) at (now (out .entry)) r
+        (now (out .exit)) ⌝ }
 {
     let p = put_field(out, at, first, m);
     let q = put_field(out, p, second, n);

@@ -1,6 +1,7 @@
 -- Bytes put into a lent buffer: done in front, untouched behind. Definitions only.
 --     countLimit                      places and counts are below it
---     Written bytes at old end new    putting the bytes from the place `at` on made the buffer `new` of `old`, and `end` is the place behind them
+--     Written bytes at old end new    putting the bytes from the place `at` on made the buffer `new` of `old`, and `end`
+--                                     is the place behind them
 -- Of a buffer that ends before `end` nothing but its length is known: such a run counts the bytes.
 use mathlib.Core.Path.{_≡_}
 use mathlib.Core.List.{List, _++_}

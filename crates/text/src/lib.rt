@@ -1,4 +1,5 @@
-// Bytes put into a lent buffer one behind the other. What no longer fits is counted and not put, so that the same functions also count.
+// Bytes put into a lent buffer one behind the other. What no longer fits is counted and not put, so that the same
+// functions also count.
 ghost use mathlib.Core.List.{[], _∷_};
 ghost use Prim.Native.Nat.{_+_, _<_};
 ghost use lib.ListN.{length};

@@ -1,12 +1,12 @@
 -- `decimal::put_digits` meets its contract, by the places that are left: no digit, the last one, or the last one behind those of the tenth.
 -- Assumes nothing.
-use Prim.Native.Nat.{ℕ, _-_, _/_, _<_}
+use Prim.Native.Nat.{ℕ, _<_}
 use native.Mathlib.Omega.{arith}
 use borrow.Author.Needs.{needs}
 use borrow.Fn.Kinds.{In}
 use borrow.Fn.PlainCycle.{Measures, is, falls, and}
 use Rattle.text.proofs.put.Reads as put-reads
-use Rattle.decimal.proofs.DecimalLaws.{digitsBy-most, digits-none, digits-last, digits-more}
+use Rattle.decimal.proofs.DecimalLaws.{digits-end, digits-none, digits-last, digits-more}
 use Rattle.decimal.proofs.digit.Reads as digit-reads
 use Rattle.decimal.proofs.put_digits.Reads as put-digits
 use Rattle.decimal.proofs.put_digits.Kinds as put-digits-kinds
@@ -33,6 +33,6 @@ pub +put-digits-spec : {M : Type 1} → statement M
     (λ c. search needs)
     (λ c κs. (omega arith, omega arith))
     (λ c κs. search needs)
-    (λ c κs. omega (arith, c .before .before .before .before .put-digits .ensures .stop, digitsBy-most (c .before .before .before .before .before .before .before .before .before .args .places - 1) (c .before .before .before .before .before .before .before .before .before .args .n / 10)))
+    (λ c κs. omega (arith, digits-end _ _ (c .before .before .before .before .put-digits .ensures)))
     (λ c. search needs)
     (λ c. digits-more (c .before .before .before .before .before .before .before .before .before .before .before .before .args .places) (c .before .before .before .before .before .before .before .before .before .before .before .before .args .n) (c .before .before .before .before .before .before .before .before .before .before .if1 .left) (c .before .before .before .before .before .before .before .before .before .if2 .left) (c .before .before .before .digit2 .ensures) (c .before .before .before .before .before .before .before .put-digits .ensures) (c .before .before .put2 .ensures))

@@ -11,19 +11,19 @@ use Rattle.text.proofs.put_all.Statement.{statement}
 use Rattle.text.proofs.put_all.Tie as tie
 
 abbrev Inv-loop : tie.InvT-loop
-Inv-loop out₀ at bytes place₀ i₀ out place i = (i ≤ length bytes) × Written (take i bytes) at out₀ place out × (place ≡ at + i)
+Inv-loop out₀ at bytes place₀ i₀ out place i = Written (take i bytes) at out₀ place out × (i ≤ length bytes) × (place ≡ at + i)
 
 abbrev μ-loop : tie.MeasureT-loop
 μ-loop out₀ at bytes place₀ i₀ out place i = length bytes - i
 
 loop-holds : tie.Need-loop-holds Inv-loop μ-loop
-loop-holds c = (omega arith, written-none (c .before .before .args .at) (c .before .before .args .out .now), omega arith)
+loop-holds c = (written-none (c .before .before .args .at) (c .before .before .args .out .now), omega arith, omega arith)
 
 loop-again : tie.Need-loop-again Inv-loop μ-loop
-loop-again c = (omega arith, written-next (c .before .before .before .before .before .before .before .before .before .args .bytes .now) (c .before .before .before .before .before .before .loop .i) (omega arith) (c .before .before .before .before .before .before .loop .inv .1) (c .before .before .put .ensures), omega (arith, c .before .before .put .ensures .stop))
+loop-again c = (written-next (c .before .before .before .before .before .before .before .before .before .args .bytes .now) (c .before .before .before .before .before .before .loop .i) (omega arith) (c .before .before .before .before .before .before .loop .inv .0) (c .before .before .put .ensures), omega arith, omega (arith, c .before .before .put .ensures .stop))
 
 returns : tie.Need-returns Inv-loop μ-loop
-returns c = let e : c .before .loop .i ≡ length (c .before .before .before .before .args .bytes .now) = omega arith in rw (e, take-length) at (c .before .loop .inv .1)
+returns c = let e : c .before .loop .i ≡ length (c .before .before .before .before .args .bytes .now) = omega arith in rw (e, take-length) at (c .before .loop .inv .0)
 
 pub put-all-spec : {M : Type 1} → statement M
 put-all-spec = tie.close (tie.spec Inv-loop μ-loop loop-holds (λ c. search needs) (λ c κs. search needs) (λ c. search needs) (λ c. search needs) loop-again (λ c. search needs) returns)
