@@ -1,7 +1,5 @@
 // The listings of inputs at the limits, one behind the other.
 
-const OUTPUT_BYTES: usize = 65536;
-
 // Writes the first bytes of `out` to standard output.
 fn write_first(out: &[u8], length: usize) {
     if length <= out.len() {
@@ -10,7 +8,7 @@ fn write_first(out: &[u8], length: usize) {
 }
 
 fn show(input: &[u8]) {
-    let mut out = [0u8; OUTPUT_BYTES];
+    let mut out = [0u8; listing::LISTING_BYTES];
     let listed = listing::list(input, &mut out);
     write_first(&out, listed.length);
 }
@@ -47,4 +45,7 @@ fn main() {
     let mut large = [6u8; 1 + 4096];
     fill(&mut large);
     show(&large);
+    // order 6, one pixel too many
+    let full = [6u8; listing::INPUT_BYTES];
+    show(&full);
 }

@@ -2,3 +2,4 @@
 pub mod LineLaws
 pub mod LentLaws
 pub mod ScannedLaws
+pub mod Bounds

@@ -1,12 +1,13 @@
 -- Laws of the lines of tiles, and of lines put into a lent buffer.
 --     tileLine-most      how long a line is at most
---     tileLines-most     how long the lines of tiles are at most
+--     tileLines-most     how long the lines of tiles are at most, if no line is longer than k
 --     tileLines-next     one more tile
 --     line-put           the line of a word's tile, put as three numbers
 --     lines-none, lines-next    the lines of the first tiles, put
-use mathlib.Core.Path.{_≡_, sym}
-use mathlib.Core.List.{List, [], _∷_, _++_, append-assoc, append-nil, map}
+use mathlib.Core.Path.{_≡_, refl, sym}
+use mathlib.Core.List.{List, [], _∷_, _++_, append-assoc, append-nil, map, List·Memᴰ, List·Memᴰ·head, List·Memᴰ·tail}
 use Prim.Native.Nat.{ℕ, zero, suc, _+_, _*_, _≤_, _<_}
+use native.Mathlib.Nat.{mul-suc}
 use native.Mathlib.Omega.{arith}
 use native.Mathlib.Numerals.{add-one}
 use lib.ListN.{length, take, getD, length-append}
@@ -22,10 +23,11 @@ pub tileLine-most : (t : Tile) → length (tileLine t) ≤ tripleMost
 unfolding tileLine
 tileLine-most t = tripleLine-most (t .corner) (t .size) (t .account)
 
-pub tileLines-most : (ts : List Tile) → length (tileLines ts) ≤ tripleMost * length ts
+pub tileLines-most : (k : ℕ) (ts : List Tile) → ((t : Tile) → List·Memᴰ t ts → length (tileLine t) ≤ k) → length (tileLines ts) ≤ k * length ts
 unfolding tileLines
-tileLines-most [] = omega arith
-tileLines-most (t ∷ ts) = omega (arith, length-append (tileLine t) (tileLines ts), tileLine-most t, tileLines-most ts)
+tileLines-most k [] h = omega arith
+tileLines-most k (t ∷ ts) h =
+    omega (arith, length-append (tileLine t) (tileLines ts), mul-suc k (length ts), h t (List·Memᴰ·head refl), tileLines-most k ts (λ u i. h u (List·Memᴰ·tail i)))
 
 next : (ws : List ℕ) (i : ℕ) → i < length ws → tileLines (map tileOf (take (suc i) ws)) ≡ tileLines (map tileOf (take i ws)) ++ tileLine (tileOf (getD ws i 0))
 unfolding tileLines

@@ -1,3 +1,2 @@
 -- The listing of a scanned bed.
 pub mod Listing
-pub mod Lent

@@ -1,17 +1,26 @@
 -- The listing that bedlist prints (document 01, "Worked beds"), as bytes. Definitions only.
 --     bedLine, tileLine, stopLine   the lines, each with its line feed
---     listedOrder          the highest order that is listed
---     listedSlots          the slots that are lent
---     listing input        the listing of an input: an order, then account bytes by rows
---     listOf input out     the offered call: what is written to the bytes lent, of which those past the listing are not touched
+--     scanLines n t slots number taken   the lines of a bed of order n, of its t tiles in the slots, and of its feed's end
+--     listedOrder               the highest order that is listed
+--     listedSlots               the slots that are lent
+--     listing input             the listing of an input: an order, then account bytes by rows
+--     answered number end out   a listing's answer, with what the bytes lent for it hold afterwards
+--     listedIn bytes out        a listing of these bytes in the bytes lent, of which those past it are not touched
+--     listOf input out          the offered call
+-- and for the program:
+--     inputBytes                bedlist reads so much of its input: more changes no listing (law `listing-read`)
+--     listingBytes              bedlist lends so many bytes: every listing fits (law `listing-fits`)
+--     Whole read out end new    every input of which `read` is read has a listing of length `end`, which is accepted and
+--                               leaves `new` in the bytes lent `out`
+use mathlib.Core.Path.{_≡_}
 use mathlib.Core.List.{List, [], _∷_, _++_}
-use Prim.Native.Nat.{ℕ}
+use Prim.Native.Nat.{ℕ, _+_, _^_, _≤_}
 use lib.Dec.{leb}
-use lib.ListN.{length, drop, replicate}
+use lib.ListN.{length, take, drop, replicate}
 use Rattle.basics.specs.Choice.{if}
 use Rattle.refusal.specs.Refusal.{accepted, orderTooLarge, bytesTooFew, fileCutShort}
 use Rattle.refusal.specs.Checks.{must, unless, After}
-use Rattle.decimal.specs.Decimal.{digits}
+use Rattle.decimal.specs.Lines.{pairLine, tripleLine}
 use Rattle.tile.specs.Tile.{Tile}
 use Rattle.tile.specs.Slots.{tilesIn}
 use Rattle.bed.specs.declared.Kind.the-variants.{Rows}
@@ -19,12 +28,6 @@ use Rattle.scan.specs.declared.Fed.{Fed}
 use Rattle.scan.specs.FreshScan.{freshOf}
 use Rattle.scan.specs.Feed.{feedOf}
 use Rattle.listing.specs.declared.Listed.{Listed}
-
-abbrev pub space : ℕ
-space = 32
-
-abbrev pub lineFeed : ℕ
-lineFeed = 10
 
 -- "bed ", " tiles ", "stop ", " taken "
 abbrev pub bedWord : List ℕ
@@ -40,17 +43,20 @@ abbrev pub takenWord : List ℕ
 takenWord = 32 ∷ 116 ∷ 97 ∷ 107 ∷ 101 ∷ 110 ∷ 32 ∷ []
 
 unfoldable pub bedLine : ℕ → ℕ → List ℕ
-bedLine n t = bedWord ++ (digits n ++ (tilesWord ++ (digits t ++ (lineFeed ∷ []))))
+bedLine n t = pairLine bedWord n tilesWord t
 
 unfoldable pub tileLine : Tile → List ℕ
-tileLine t = digits (t .corner) ++ (space ∷ (digits (t .size) ++ (space ∷ (digits (t .account) ++ (lineFeed ∷ [])))))
+tileLine t = tripleLine (t .corner) (t .size) (t .account)
 
 unfoldable pub tileLines : List Tile → List ℕ
 tileLines [] = []
 tileLines (t ∷ ts) = tileLine t ++ tileLines ts
 
 unfoldable pub stopLine : ℕ → ℕ → List ℕ
-stopLine number taken = stopWord ++ (digits number ++ (takenWord ++ (digits taken ++ (lineFeed ∷ []))))
+stopLine number taken = pairLine stopWord number takenWord taken
+
+abbrev pub scanLines : ℕ → ℕ → List ℕ → ℕ → ℕ → List ℕ
+scanLines n t slots number taken = bedLine n t ++ (tileLines (tilesIn t slots) ++ stopLine number taken)
 
 abbrev pub listedOrder : ℕ
 listedOrder = 6
@@ -63,14 +69,32 @@ abbrev pub scanned : ℕ → List ℕ → After Fed
 scanned n accounts = let r = freshOf Rows n (replicate listedSlots 0) in feedOf (r .answer .scan) (r .storage) accounts
 
 unfoldable pub fedListing : After Fed → List ℕ
-fedListing r = bedLine (r .answer .scan .order) (r .answer .scan .tiles) ++ (tileLines (tilesIn (r .answer .scan .tiles) (r .storage)) ++ stopLine (r .answer .number) (r .answer .taken))
+fedListing r =
+    scanLines (r .answer .scan .order) (r .answer .scan .tiles) (r .storage) (r .answer .number) (r .answer .taken)
 
 unfoldable pub listing : List ℕ → List ℕ
 listing [] = stopLine fileCutShort 0
 listing (n ∷ accounts) = if (leb n listedOrder) (fedListing (scanned n accounts)) (stopLine orderTooLarge 0)
 
-unfoldable pub listOf : List ℕ → List ℕ → After Listed
-listOf input out =
-    unless (must (leb (length (listing input)) (length out)) bytesTooFew accepted)
-    (λ number. record { answer = record { number = number; length = 0 }; storage = out })
-    (record { answer = record { number = accepted; length = length (listing input) }; storage = listing input ++ drop (length (listing input)) out })
+abbrev pub answered : ℕ → ℕ → List ℕ → After Listed
+answered number end out = record { answer = record { number = number; length = end }; storage = out }
+
+unfoldable pub listedIn : List ℕ → List ℕ → After Listed
+listedIn bytes out =
+    unless (must (leb (length bytes) (length out)) bytesTooFew accepted)
+    (λ number. answered number 0 out)
+    (answered accepted (length bytes) (bytes ++ drop (length bytes) out))
+
+abbrev pub listOf : List ℕ → List ℕ → After Listed
+listOf input out = listedIn (listing input) out
+
+-- an order, the pixels of the highest order, and one too many
+abbrev pub inputBytes : ℕ
+inputBytes = 1 + 4 ^ listedOrder + 1
+
+abbrev pub listingBytes : ℕ
+listingBytes = 65536
+
+pub record Whole (read out : List ℕ) (end : ℕ) (new : List ℕ) : Type 0 where
+  pub fits : end ≤ length new
+  pub lists : (input : List ℕ) → take inputBytes input ≡ read → answered accepted end new ≡ listOf input out

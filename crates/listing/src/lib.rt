@@ -1,14 +1,15 @@
-// The listing of a scanned bed as text. As in crate `text`, what does not fit is counted, so that one run counts the bytes and a second puts them.
+// The listing of a scanned bed as text. As in crate `text`, what does not fit is counted, so that one run counts the
+// bytes and a second puts them.
 ghost use mathlib.Core.Path.{_≡_};
 ghost use Prim.Native.Nat.{_+_, _*_, _<_, _≤_};
-ghost use lib.ListN.{length};
+ghost use lib.ListN.{length, take};
 ghost use Rattle.refusal.specs.Checks.{After};
 ghost use Rattle.tile.specs.Tile.{tileOf};
 ghost use Rattle.tile.specs.Slots.{tilesIn};
 ghost use Rattle.text.specs.Written.{Written, countLimit};
-ghost use Rattle.listing.specs.Listing.{tileLine, tileLines, stopLine, listedSlots, listOf};
 ghost use Rattle.decimal.specs.Lines.{tripleMost};
-ghost use Rattle.listing.specs.Lent.{scanLines, listedIn};
+ghost use Rattle.listing.specs.Listing.{tileLine, tileLines, stopLine, scanLines, listedSlots};
+ghost use Rattle.listing.specs.Listing.{listedIn, listOf, inputBytes, Whole};
 
 // The bytes written, with the number 26 where the listing takes more than were lent.
 pub struct Listed {
@@ -19,8 +20,14 @@ pub struct Listed {
 // The highest order that is listed.
 const LISTED_ORDER: u32 = 6;
 
-// A bed of that order has at most so many tiles.
+// A bed of that order has so many pixels, and at most so many tiles.
 const LISTED_SLOTS: usize = 4096;
+
+// An order, the pixels and one too many: more of an input changes no listing.
+pub const INPUT_BYTES: usize = 1 + LISTED_SLOTS + 1;
+
+// Every listing fits so many bytes.
+pub const LISTING_BYTES: usize = 65536;
 
 // Puts the line of the tile of a word.
 fn put_word(out: &mut [u8], at: usize, word: u32) -> usize
@@ -36,7 +43,8 @@ fn put_word(out: &mut [u8], at: usize, word: u32) -> usize
 // Puts the lines of a list's tiles.
 fn put_tiles(out: &mut [u8], at: usize, tiles: usize, slots: &[u32]) -> usize
     requires { ⌜ (tiles ≤ length (now slots)) × (at + tripleMost * tiles < countLimit) ⌝ }
-    ensures { λ r. ⌜ Written (tileLines (tilesIn tiles (now (slots .entry)))) at (now (out .entry)) r (now (out .exit)) ⌝ }
+    ensures { λ r. ⌜ Written (tileLines (tilesIn tiles (now (slots .entry)))) at (now (out .entry)) r
+        (now (out .exit)) ⌝ }
 {
     let mut place = at;
     let mut i = 0;
@@ -57,7 +65,8 @@ fn put_scanned(
     taken: usize,
 ) -> usize
     requires { ⌜ (tiles ≤ length (now slots)) × (tiles ≤ listedSlots) ⌝ }
-    ensures { λ r. ⌜ Written (scanLines order tiles (now (slots .entry)) number taken) 0 (now (out .entry)) r (now (out .exit)) ⌝ }
+    ensures { λ r. ⌜ Written (scanLines order tiles (now (slots .entry)) number taken) 0 (now (out .entry)) r
+        (now (out .exit)) ⌝ }
 {
     let p = decimal::put_pair(out, 0, b"bed ", order, b" tiles ", tiles);
     let q = put_tiles(out, p, tiles, slots);
@@ -66,7 +75,8 @@ fn put_scanned(
 
 // Writes the listing that has no bed: the line of the feed's end alone.
 fn write_stop(number: u32, taken: usize, out: &mut [u8]) -> Listed
-    ensures { λ r. ⌜ _≡_ {A = After Listed} (record { answer = r; storage = now (out .exit) }) (listedIn (stopLine number taken) (now (out .entry))) ⌝ }
+    ensures { λ r. ⌜ _≡_ {A = After Listed} (record { answer = r; storage = now (out .exit) })
+        (listedIn (stopLine number taken) (now (out .entry))) ⌝ }
 {
     let mut none = [0u8; 1];
     let line = decimal::put_pair(&mut none, 0, b"stop ", number as usize, b" taken ", taken);
@@ -93,7 +103,8 @@ fn write_scanned(
     out: &mut [u8],
 ) -> Listed
     requires { ⌜ (tiles ≤ length (now slots)) × (tiles ≤ listedSlots) ⌝ }
-    ensures { λ r. ⌜ _≡_ {A = After Listed} (record { answer = r; storage = now (out .exit) }) (listedIn (scanLines order tiles (now (slots .entry)) number taken) (now (out .entry))) ⌝ }
+    ensures { λ r. ⌜ _≡_ {A = After Listed} (record { answer = r; storage = now (out .exit) })
+        (listedIn (scanLines order tiles (now (slots .entry)) number taken) (now (out .entry))) ⌝ }
 {
     let mut none = [0u8; 1];
     let length = put_scanned(
@@ -117,10 +128,11 @@ fn write_scanned(
     }
 }
 
-// The offered call: lists what a row scan of the input, an order and then account bytes, leaves and answers. It refuses 26, and then writes
-// nothing, where the listing takes more bytes than are lent.
+// The offered call: lists what a row scan of the input, an order and then account bytes, leaves and answers. It refuses
+// 26, and then writes nothing, where the listing takes more bytes than are lent.
 pub fn list(input: &[u8], out: &mut [u8]) -> Listed
-    ensures { λ r. ⌜ _≡_ {A = After Listed} (record { answer = r; storage = now (out .exit) }) (listOf (now (input .entry)) (now (out .entry))) ⌝ }
+    ensures { λ r. ⌜ _≡_ {A = After Listed} (record { answer = r; storage = now (out .exit) })
+        (listOf (now (input .entry)) (now (out .entry))) ⌝ }
 {
     if input.len() == 0 {
         return write_stop(refusal::FILE_CUT_SHORT, 0, out);
@@ -141,4 +153,15 @@ pub fn list(input: &[u8], out: &mut [u8]) -> Listed
         fed.taken,
         out,
     )
+}
+
+// What bedlist does between reading and writing: `count` bytes were read, the whole input or its first INPUT_BYTES.
+// Writes the listing of the whole input, which fits, and answers its length.
+pub fn list_whole(read: &[u8; INPUT_BYTES], count: usize, out: &mut [u8; LISTING_BYTES]) -> usize
+    requires { ⌜ count ≤ inputBytes ⌝ }
+    ensures { λ r. ⌜ Whole (take count (now (read .entry))) (now (out .entry)) r (now (out .exit)) ⌝ }
+{
+    let bytes: &[u8] = read;
+    let listed = list(&bytes[..count], out);
+    listed.length
 }

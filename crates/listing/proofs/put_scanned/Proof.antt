@@ -2,23 +2,24 @@
 use Rattle.tile.specs.Slots.{tilesIn}
 use Rattle.tile.proofs.SlotsLaws.{length-tilesIn}
 use Rattle.text.proofs.WrittenLaws.{written-then}
+use Rattle.decimal.specs.Lines.{tripleMost}
 use Rattle.decimal.proofs.LinesLaws.{pairLine-most}
 use Rattle.listing.specs.Listing.{bedWord, tilesWord, bedLine, stopLine}
-use Rattle.listing.proofs.LineLaws.{tileLines-most}
+use Rattle.listing.proofs.LineLaws.{tileLine-most, tileLines-most}
 use native.Mathlib.Omega.{arith}
 use borrow.Author.Needs.{needs}
 use Rattle.listing.proofs.put_scanned.Statement.{statement}
 use Rattle.listing.proofs.put_scanned.Tie as tie
 
+returns : tie.Need-returns
+unfolding bedLine stopLine
+returns c = written-then (c .before .before .before .before .before .before .before .before .before .before .before .before .put-pair .ensures) (written-then (c .before .before .before .before .before .before .before .before .put-tiles .ensures) (c .before .before .put-pair2 .ensures))
+
 put-tiles-requires : tie.Need-put-tiles-requires
 put-tiles-requires c κs = (omega arith, omega (arith, pairLine-most bedWord (c .before .before .before .before .before .before .before .before .before .args .order) tilesWord (c .before .before .before .before .before .before .before .before .before .args .tiles)))
 
 put-pair-requires-2 : tie.Need-put-pair-requires-2
-put-pair-requires-2 c κs = omega (arith, pairLine-most bedWord (c .before .before .before .before .before .before .before .before .before .before .before .before .before .before .before .args .order) tilesWord (c .before .before .before .before .before .before .before .before .before .before .before .before .before .before .before .args .tiles), tileLines-most (tilesIn (c .before .before .before .before .before .before .before .before .before .before .before .before .before .before .before .args .tiles) (c .before .before .before .before .before .before .before .before .before .before .before .before .before .before .before .args .slots .now)), length-tilesIn (c .before .before .before .before .before .before .before .before .before .before .before .before .before .before .before .args .tiles) (c .before .before .before .before .before .before .before .before .before .before .before .before .before .before .before .args .slots .now) (omega arith))
-
-returns : tie.Need-returns
-unfolding bedLine stopLine
-returns c = written-then (c .before .before .before .before .before .before .before .before .before .before .before .before .put-pair .ensures) (written-then (c .before .before .before .before .before .before .before .before .put-tiles .ensures) (c .before .before .put-pair2 .ensures))
+put-pair-requires-2 c κs = omega (arith, pairLine-most bedWord (c .before .before .before .before .before .before .before .before .before .before .before .before .before .before .before .args .order) tilesWord (c .before .before .before .before .before .before .before .before .before .before .before .before .before .before .before .args .tiles), tileLines-most tripleMost (tilesIn (c .before .before .before .before .before .before .before .before .before .before .before .before .before .before .before .args .tiles) (c .before .before .before .before .before .before .before .before .before .before .before .before .before .before .before .args .slots .now)) (λ t i. tileLine-most t), length-tilesIn (c .before .before .before .before .before .before .before .before .before .before .before .before .before .before .before .args .tiles) (c .before .before .before .before .before .before .before .before .before .before .before .before .before .before .before .args .slots .now) (omega arith))
 
 pub put-scanned-spec : {M : Type 1} → statement M
 put-scanned-spec = tie.close (tie.spec (λ c. search needs) (λ c. search needs) (λ c κs. search needs) put-tiles-requires (λ c. search needs) (λ c. search needs) put-pair-requires-2 (λ c. search needs) returns)

@@ -1,0 +1,18 @@
+-- `listing::list_whole` meets its contract: the listing of what was read is that of the whole input, and fits. Assumes nothing.
+use lib.Seq.{length-take-le}
+use mathlib.Core.Path.{sym}
+use lib.ListN.{take}
+use Rattle.listing.proofs.Bounds.{whole-listed}
+use native.Mathlib.Omega.{arith}
+use borrow.Author.Needs.{needs}
+use Rattle.listing.proofs.list_whole.Statement.{statement}
+use Rattle.listing.proofs.list_whole.Tie as tie
+
+returns : tie.Need-returns
+returns c = whole-listed (take (c .before .before .before .before .args .count) (c .before .before .before .before .args .read .now)) (c .before .before .before .before .args .out .now) _ (c .list .result) (omega arith) (c .list .ensures)
+
+slice-aggregate-list : tie.Need-slice-aggregate-list
+slice-aggregate-list c = sym (length-take-le (c .before .before .args .count) (c .before .before .args .read .now) (omega arith))
+
+pub list-whole-spec : {M : Type 1} → statement M
+list-whole-spec = tie.close (tie.spec slice-aggregate-list (λ c κs. search needs) returns)
