@@ -7,11 +7,11 @@ use mathlib.Core.List.{List, [], _∷_, _++_, List·Memᴰ·not-nil}
 use Prim.Native.Nat.{ℕ, zero, suc, _+_, _-_, _*_, _^_, _≤_, _<_}
 use native.Mathlib.Omega.{arith}
 use lib.ListN.{length, take, drop, replicate, length-append}
-use Rattle.basics.proofs.Tests.{test-leb, test-eqb}
+use Rattle.basics.proofs.Tests.{test-leb}
 use Rattle.basics.proofs.ChoiceLaws.{if-yes, if-no, by-if}
 use Rattle.refusal.specs.Refusal.{accepted, orderTooLarge, fileCutShort}
 use Rattle.refusal.specs.Checks.{After}
-use Rattle.refusal.proofs.CheckLaws.{must-on, unless-on, by-unless}
+use Rattle.refusal.proofs.CheckLaws.{must-on, unless-on, by-unless, unless-alike}
 use Rattle.tile.specs.Tile.{Tile, highestOrder, highestAccount}
 use Rattle.tile.specs.Slots.{tilesIn, filled}
 use Rattle.tile.proofs.SlotsLaws.{tilesIn-filled}
@@ -25,8 +25,9 @@ use Rattle.bed.specs.declared.Kind.the-variants.{Rows}
 use Rattle.bed.specs.declared.Scan.{Scan}
 use Rattle.bed.specs.Places.{scanOf}
 use Rattle.bed.specs.Bed as bed
-use Rattle.bed.specs.Bed.{Bed, putPixel, feedPixels, shownBed}
-use Rattle.bed.proofs.BedLaws.{Good, FedAlike, feedPixels-alike}
+use Rattle.bed.specs.Bed.{Bed, bedOf, putPixel, pixelCheck, feedPixels}
+use Rattle.bed.proofs.BedLaws.{Good, pixelCheck-passed, FedAlike, feedPixels-alike}
+use Rattle.feeding.specs.Shown.{shownBed}
 use Rattle.scan.specs.declared.Fed.{Fed}
 use Rattle.scan.specs.FreshScan.{freshOf}
 use Rattle.scan.specs.Feed.{opening, fedTo, feedOf}
@@ -50,10 +51,7 @@ module _ (m : ℕ) where
       ((b .scanned ≡ 4 ^ b .order → ⊥) → feedPixels m (k + 1) (putPixel b a) some ≡ feedPixels m (k + 1) (putPixel b a) all) →
       feedPixels m k b (a ∷ some) ≡ feedPixels m k b (a ∷ all)
   unfolding feedPixels
-  pixel-read k b a some all rest =
-      by-if (λ (r : bed.Fed). r ≡ feedPixels m k b (a ∷ all)) (test-eqb (b .scanned) (4 ^ b .order))
-      (λ full. sym (if-yes _ _ (test-eqb (b .scanned) (4 ^ b .order)) full))
-      (λ full. rw (rest full) (sym (if-no _ _ (test-eqb (b .scanned) (4 ^ b .order)) full)))
+  pixel-read k b a some all rest = unless-alike (λ (p q : bed.Fed). p ≡ q) (pixelCheck m b a) (λ r. refl) (λ e. rest (pixelCheck-passed e .going))
 
   feedPixels-read : (k j : ℕ) (b : Bed) (bytes : List ℕ) → b .scanned ≤ 4 ^ b .order → 4 ^ b .order < b .scanned + j →
       feedPixels m k b (take j bytes) ≡ feedPixels m k b bytes
@@ -135,7 +133,7 @@ module _ (m n s : ℕ) (f : ℕ → ℕ) (w : Good m n s f) (l : n ≤ listedOrd
         account = omega (arith, q .uniform (t .corner) (omega arith) (omega (arith, area-pos (t .size))), w .accounts (t .corner) (q .quadrant .inside));
       }
 
-  good-fits : (number taken : ℕ) → Fits m (fedListing (fedTo m (record { number = number; taken = taken; bed = record { order = n; kind = Rows; scanned = s; account = f } })))
+  good-fits : (number taken : ℕ) → Fits m (fedListing (fedTo m (record { number = number; taken = taken; bed = bedOf Rows n s f })))
   unfolding fedListing fedTo
   good-fits number taken =
       let e : tilesIn (length (quadtree n f)) (filled m (quadtree n f)) ≡ quadtree n f =
@@ -151,7 +149,7 @@ unfolding feedOf fedListing tilesIn
 feedOf-fits n slots bytes l =
     by-unless (λ (r : After Fed). Fits (length slots) (fedListing r)) (opening (scanOf Rows n 0 0) slots)
     (λ number. lines-fit n number 0 (length slots) [] (omega arith) (λ t i. absurd (List·Memᴰ·not-nil i)))
-    (fed (feedPixels-alike (length slots) Rows n 0 0 _ _ bytes (λ z h. refl) (blank-good (length slots) n slots (omega arith))))
+    (λ q. fed (feedPixels-alike (length slots) Rows n 0 0 _ _ bytes (λ z h. refl) (blank-good (length slots) n slots (omega arith))))
   where
     fed : {p : bed.Fed} → FedAlike (length slots) Rows n p p → Fits (length slots) (fedListing (fedTo (length slots) p))
     fed {p} a = rw (a .second-bed) (good-fits (length slots) n (a .scanned) (a .second) (a .good) l (p .number) (p .taken))
