@@ -18,12 +18,18 @@ Inv-loop order list lo hi corner size account from₀ to₀ c₀ k₀ from to c 
 abbrev μ-loop : tie.MeasureT-loop
 μ-loop order list lo hi corner size account from₀ to₀ c₀ k₀ from to c k = from + (length list - to)
 
+loop-holds : tie.Need-loop-holds Inv-loop μ-loop
+loop-holds c = c .before .pre .1
+
+loop-again : tie.Need-loop-again Inv-loop μ-loop
+loop-again c = stands-up (c .before .before .before .loop .inv) (c .area .result) (c .area .ensures) (told-true (c .before .before .beside .ensures) (c .before .if1 .taken))
+
+returns : tie.Need-returns Inv-loop μ-loop
+returns c = stands-merges (c .before .before .loop .inv) (told-false (c .before .beside .ensures) (c .if1 .left))
+
 -- what is known in a turn
 turn : (c : tie.After-area Inv-loop μ-loop) → Turn (length (map tileOf (c .before .before .before .before .before .args .list .now))) (c .before .before .before .loop .from) (c .before .before .before .loop .to) (c .before .before .before .loop .c) (c .before .before .before .loop .k) (c .area .result)
 turn c = stands-turn (c .before .before .before .loop .inv) (c .before .before .before .before .before .pre .0) (c .area .result) (c .area .ensures) (told-true (c .before .before .beside .ensures) (c .before .if1 .taken))
-
-loop-holds : tie.Need-loop-holds Inv-loop μ-loop
-loop-holds c = c .before .pre .1
 
 beside-requires : tie.Need-beside-requires Inv-loop μ-loop
 beside-requires c κs =
@@ -60,12 +66,6 @@ add-k c = omega (arith, turn c)
 
 loop-less : tie.Need-loop-less Inv-loop μ-loop
 loop-less c = omega (arith, turn c, length-map (c .before .before .before .before .before .args .list .now) tileOf)
-
-loop-again : tie.Need-loop-again Inv-loop μ-loop
-loop-again c = stands-up (c .before .before .before .loop .inv) (c .area .result) (c .area .ensures) (told-true (c .before .before .beside .ensures) (c .before .if1 .taken))
-
-returns : tie.Need-returns Inv-loop μ-loop
-returns c = stands-merges (c .before .before .loop .inv) (told-false (c .before .beside .ensures) (c .if1 .left))
 
 pub merge-spec : {M : Type 1} → statement M
 merge-spec = tie.close (tie.spec Inv-loop μ-loop loop-holds beside-requires area-requires div-place cast-before sub-from sub-to add-to mul-c sub-c add-k loop-less loop-again returns)

@@ -22,12 +22,6 @@ abbrev μ-loop : tie.MeasureT-loop
 loop-holds : tie.Need-loop-holds Inv-loop μ-loop
 loop-holds c = (search needs, search needs, c .before .before .before .pre .3, refl)
 
-put-entry-requires : tie.Need-put-entry-requires Inv-loop μ-loop
-put-entry-requires c κs =
-    let a = c .before .before .before .before .before .before .before .args in
-    let l = c .before .before .before .loop in
-    omega (arith, l .inv .2, entries-room (tilesIn (a .tiles) (a .slots .now)) (l .account) (c .before .pixels-of .result) (omega arith) (c .before .pixels-of .ensures))
-
 loop-again : tie.Need-loop-again Inv-loop μ-loop
 loop-again c =
     let a = c .before .before .before .before .before .before .before .before .before .before .args in
@@ -44,6 +38,12 @@ returns c =
     let a = c .before .before .before .before .before .args in
     let l = c .before .loop in
     entries-end (tilesIn (a .tiles) (a .slots .now)) (l .account) (l .p) (l .file) (l .inv .3) (omega arith)
+
+put-entry-requires : tie.Need-put-entry-requires Inv-loop μ-loop
+put-entry-requires c κs =
+    let a = c .before .before .before .before .before .before .before .args in
+    let l = c .before .before .before .loop in
+    omega (arith, l .inv .2, entries-room (tilesIn (a .tiles) (a .slots .now)) (l .account) (c .before .pixels-of .result) (omega arith) (c .before .pixels-of .ensures))
 
 pub put-entries-spec : {M : Type 1} → statement M
 put-entries-spec = tie.close (tie.spec Inv-loop μ-loop (λ c κs. search needs) loop-holds (λ c κs. search needs) put-entry-requires (λ c. search needs) (λ c. search needs) loop-again (λ c. search needs) returns)

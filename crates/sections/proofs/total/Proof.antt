@@ -23,13 +23,6 @@ abbrev μ-loop : tie.MeasureT-loop
 loop-holds : tie.Need-loop-holds Inv-loop μ-loop
 loop-holds c = (search needs, covered-start (c .before .args .account) (c .before .args .tiles) (c .before .args .slots .now))
 
-add-sum : tie.Need-add-sum Inv-loop μ-loop
-add-sum c =
-    let a = c .before .before .before .before .before .args in
-    let l = c .before .before .before .loop in
-    let k = length-take-le (a .tiles) (a .slots .now) (omega arith) in
-    omega (arith, covered-fits (a .account) (c .before .before .before .before .before .pre .0) (c .before .before .before .before .before .pre .2), covered-on (a .account) (take (a .tiles) (a .slots .now)) (l .i) (l .sum) (l .inv .1) (c .share .result) (getD (a .slots .now) (l .i) 0) (omega arith) (getD-take (a .tiles) (a .slots .now) (l .i) 0 (omega arith)) (c .share .ensures))
-
 loop-again : tie.Need-loop-again Inv-loop μ-loop
 loop-again c =
     let a = c .before .before .before .before .before .args in
@@ -43,6 +36,13 @@ returns c =
     let l = c .before .loop in
     let k = length-take-le (a .tiles) (a .slots .now) (omega arith) in
     covered-end (a .account) (take (a .tiles) (a .slots .now)) (l .i) (l .sum) (l .inv .1) (omega arith)
+
+add-sum : tie.Need-add-sum Inv-loop μ-loop
+add-sum c =
+    let a = c .before .before .before .before .before .args in
+    let l = c .before .before .before .loop in
+    let k = length-take-le (a .tiles) (a .slots .now) (omega arith) in
+    omega (arith, covered-fits (a .account) (c .before .before .before .before .before .pre .0) (c .before .before .before .before .before .pre .2), covered-on (a .account) (take (a .tiles) (a .slots .now)) (l .i) (l .sum) (l .inv .1) (c .share .result) (getD (a .slots .now) (l .i) 0) (omega arith) (getD-take (a .tiles) (a .slots .now) (l .i) 0 (omega arith)) (c .share .ensures))
 
 pub total-spec : {M : Type 1} → statement M
 total-spec = tie.close (tie.spec Inv-loop μ-loop loop-holds (λ c. search needs) (λ c. search needs) (λ c κs. search needs) add-sum (λ c. search needs) (λ c. search needs) loop-again returns)

@@ -22,11 +22,23 @@ abbrev μ-loop : tie.MeasureT-loop
 turn : (c : tie.After-area Inv-loop μ-loop) → let l = c .before .before .loop in let a = c .before .before .before .before .before .args in Turned (length (l .slots)) (l .left) (a .change .size) (a .change .corner) (a .account) (a .change .owner) (l .s) (l .d) (c .area .result)
 turn c = level (c .before .before .loop .inv .0) (omega arith) (c .area .ensures)
 
-add-right : tie.Need-add-right Inv-loop μ-loop
-add-right c = omega (arith, c .before .before .pre .0 .fits)
-
 loop-holds : tie.Need-loop-holds Inv-loop μ-loop
 loop-holds c = (record { drawn = c .before .before .pre .0; end = omega (arith, c .before .before .pre .1); rest = refl }, refl)
+
+loop-again : tie.Need-loop-again Inv-loop μ-loop
+loop-again c =
+    let l = c .before .before .before .before .before .before .before .before .before .before .loop in
+    let q : length (c .before .before .write-run2 .last .0) ≡ length (l .slots) = omega (arith, c .before .before .write-run2 .kept, c .before .before .before .before .before .before .write-run .kept) in
+    (put-level (l .inv .0) (omega arith) (c .before .before .before .before .before .before .before .before .area .ensures) (c .before .before .before .before .before .before .write-run .ensures) (c .before .before .write-run2 .ensures) q, q ∙ l .inv .1)
+
+returns : tie.Need-returns Inv-loop μ-loop
+returns c = rw (c .pack .ensures) (put-one (c .before .before .before .loop .inv .0) (omega (arith, c .before .before .before .loop .inv .0 .drawn .sizes)) (c .before .if1 .taken))
+
+returns-2 : tie.Need-returns-2 Inv-loop μ-loop
+returns-2 c = put-none (c .before .before .loop .inv .0) (omega (arith, c .before .before .loop .inv .0 .drawn .sizes)) (c .if1 .left)
+
+add-right : tie.Need-add-right Inv-loop μ-loop
+add-right c = omega (arith, c .before .before .pre .0 .fits)
 
 area-requires : tie.Need-area-requires Inv-loop μ-loop
 area-requires c κs = omega (arith, c .before .loop .inv .0 .drawn .small)
@@ -67,12 +79,6 @@ add-left c = omega (arith, turn (c .before .before .before .before .before .befo
 loop-less : tie.Need-loop-less Inv-loop μ-loop
 loop-less c = omega arith
 
-loop-again : tie.Need-loop-again Inv-loop μ-loop
-loop-again c =
-    let l = c .before .before .before .before .before .before .before .before .before .before .loop in
-    let q : length (c .before .before .write-run2 .last .0) ≡ length (l .slots) = omega (arith, c .before .before .write-run2 .kept, c .before .before .before .before .before .before .write-run .kept) in
-    (put-level (l .inv .0) (omega arith) (c .before .before .before .before .before .before .before .before .area .ensures) (c .before .before .before .before .before .before .write-run .ensures) (c .before .before .write-run2 .ensures) q, q ∙ l .inv .1)
-
 pack-requires : tie.Need-pack-requires Inv-loop μ-loop
 pack-requires c κs = omega (arith, c .before .before .loop .inv .0 .drawn)
 
@@ -84,12 +90,6 @@ slice-write-slots c = put-room (c .before .before .before .loop .inv .0) (omega 
 
 same-length : tie.Need-same-length Inv-loop μ-loop
 same-length c = simp length-set (omega arith)
-
-returns : tie.Need-returns Inv-loop μ-loop
-returns c = rw (c .pack .ensures) (put-one (c .before .before .before .loop .inv .0) (omega (arith, c .before .before .before .loop .inv .0 .drawn .sizes)) (c .before .if1 .taken))
-
-returns-2 : tie.Need-returns-2 Inv-loop μ-loop
-returns-2 c = put-none (c .before .before .loop .inv .0) (omega (arith, c .before .before .loop .inv .0 .drawn .sizes)) (c .if1 .left)
 
 pub write-pieces-spec : {M : Type 1} → statement M
 write-pieces-spec = tie.close (tie.spec Inv-loop μ-loop add-right loop-holds (λ c. search needs) area-requires sub-place div-place cast-before sub-after write-run-requires mul-d add-d sub-right add-write-run write-run-requires-2 add-left loop-less loop-again pack-requires mul-slots slice-write-slots same-length returns (λ c. search needs) returns-2)

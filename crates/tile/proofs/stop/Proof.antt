@@ -8,14 +8,14 @@ use Rattle.tile.proofs.Bits.{stop-fits}
 use Rattle.tile.proofs.stop.Statement.{statement}
 use Rattle.tile.proofs.stop.Tie as tie
 
+returns : tie.Need-returns
+returns c = omega (arith, c .before .before .corner .ensures, c .area .ensures, ap (λ (k : ℕ). 4 ^ k) (c .before .size .ensures))
+
 area-requires : tie.Need-area-requires
 area-requires c κs = omega (arith, c .size .ensures, tileOf-size (c .before .before .args .w))
 
 add-result : tie.Need-add-result
 add-result c = record { fits = stop-fits (c .before .before .before .args .w) _ _ _ (c .before .before .before .fits .w .fits) (c .before .before .corner .ensures) (c .before .size .ensures) (c .area .ensures) }
-
-returns : tie.Need-returns
-returns c = omega (arith, c .before .before .corner .ensures, c .area .ensures, ap (λ (k : ℕ). 4 ^ k) (c .before .size .ensures))
 
 pub stop-spec : {M : Type 1} → statement M
 stop-spec = tie.close (tie.spec (λ c κs. search needs) (λ c κs. search needs) area-requires add-result returns)
