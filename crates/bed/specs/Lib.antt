@@ -1,3 +1,4 @@
--- The scan record and the plain bed.
+-- The scan record, the plain bed, and lines of it worked.
 pub mod Places
 pub mod Bed
+pub mod Worked

@@ -1,0 +1,56 @@
+-- Lines of document 01's "Worked beds" on the plain bed, and one of its "Other calls", as one table. All are computed
+-- by the checker (proofs/BedComputed.antt).
+--     rowScan n m bytes      a fresh row scan of order n with m slots, fed once
+--     Says r number taken    the feed r ended by the number, with so many pixels taken
+use mathlib.Core.Path.{_≡_}
+use mathlib.Core.List.{List, [], _∷_, _++_}
+use Prim.Native.Nat.{ℕ}
+use lib.ListN.{take, drop, getD}
+use Rattle.refusal.specs.Refusal.{accepted, tileUnscanned, scanFull, accountTooLarge, slotsExceeded}
+use Rattle.bed.specs.declared.Kind.the-variants.{Rows}
+use Rattle.bed.specs.Places.{rows}
+use Rattle.bed.specs.Bed.{Bed, Fed, freshBed, feedBed, claimed, claimCheck}
+
+-- bed M, order 2, by Morton number and by rows
+abbrev pub bedM : ℕ → ℕ
+bedM z = getD (5 ∷ 5 ∷ 5 ∷ 5 ∷ 0 ∷ 0 ∷ 0 ∷ 9 ∷ 9 ∷ 0 ∷ 0 ∷ 0 ∷ 9 ∷ 9 ∷ 9 ∷ 9 ∷ []) z 0
+
+abbrev pub rowsM : List ℕ
+rowsM = 5 ∷ 5 ∷ 0 ∷ 0 ∷ 5 ∷ 5 ∷ 0 ∷ 9 ∷ 9 ∷ 0 ∷ 9 ∷ 9 ∷ 0 ∷ 0 ∷ 9 ∷ 9 ∷ []
+
+-- a bed of order 2 by rows with the first row scanned and nobody's, and then (3, size 0) claimed
+abbrev pub claimedEarly : Bed
+claimedEarly = record { order = 2; kind = Rows; scanned = 4; account = claimed (λ z. 0) 3 0 5 }
+
+abbrev pub rowScan : ℕ → ℕ → List ℕ → Fed
+rowScan n m bytes = feedBed m (freshBed Rows n) bytes
+
+abbrev pub Says : Fed → ℕ → ℕ → Type 0
+Says r number taken = (r .number ≡ number) × (r .taken ≡ taken)
+
+pub record PlainLines : Type 0 where
+  -- row scan of M with 6 slots passes, and leaves M; so it does in two feeds
+  pub M-six-slots : Says (rowScan 2 6 rowsM) accepted 16
+  pub M-scanned : rows 2 (rowScan 2 6 rowsM .bed .account) ≡ rowsM
+  pub M-two-feeds : Says (feedBed 6 (rowScan 2 6 (take 9 rowsM) .bed) (drop 9 rowsM)) accepted 7
+  -- with 5 it stops by 25, 14 taken
+  pub M-five-slots : Says (rowScan 2 5 rowsM) slotsExceeded 14
+  -- a pixel fed past the bed gives 23
+  pub M-one-more : Says (rowScan 2 6 (rowsM ++ 0 ∷ [])) scanFull 16
+  -- order 1, all 7: 3 slots suffice, 2 slots stop by 25, 2 taken
+  pub sevens-three-slots : Says (rowScan 1 3 (7 ∷ 7 ∷ 7 ∷ 7 ∷ [])) accepted 4
+  pub sevens-two-slots : Says (rowScan 1 2 (7 ∷ 7 ∷ 7 ∷ 7 ∷ [])) slotsExceeded 2
+  -- order 0, account 0: no tile, with 0 slots
+  pub empty-bed : Says (rowScan 0 0 (0 ∷ [])) accepted 1
+  -- account 63 passes, 64 gives 24, fed and claimed
+  pub fed-63 : Says (rowScan 0 1 (63 ∷ [])) accepted 1
+  pub fed-64 : Says (rowScan 0 1 (64 ∷ [])) accountTooLarge 0
+  pub claimed-63 : claimCheck 6 2 bedM 8 0 63 ≡ accepted
+  pub claimed-64 : claimCheck 6 2 bedM 8 0 64 ≡ accountTooLarge
+  -- on M, releasing (3, size 0) leaves six tiles
+  pub M-release : claimCheck 6 2 bedM 3 0 0 ≡ accepted
+  pub M-no-release : claimCheck 5 2 bedM 3 0 0 ≡ slotsExceeded
+  pub M-released : rows 2 (claimed bedM 3 0 0)
+      ≡ 5 ∷ 5 ∷ 0 ∷ 0 ∷ 5 ∷ 0 ∷ 0 ∷ 9 ∷ 9 ∷ 0 ∷ 9 ∷ 9 ∷ 0 ∷ 0 ∷ 9 ∷ 9 ∷ []
+  -- "if the claim left a tile on an unscanned pixel, the next feed gives 22"
+  pub unscanned : Says (feedBed 6 claimedEarly rowsM) tileUnscanned 0
