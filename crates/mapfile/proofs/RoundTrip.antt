@@ -3,10 +3,10 @@
 --     read-write        and leaves the list in the slots, with its order and its tile count
 --     read-written      the same of the two calls: what an accepted write left is read
 use mathlib.Core.Path.{_≡_, refl, ap, sym, _∙_}
-use mathlib.Core.List.{List, [], _∷_, _++_, map, List·Memᴰ·head, List·Memᴰ·tail}
-use Prim.Native.Nat.{ℕ, _+_, _-_, _*_, _^_, _≤_, _<_}
+use mathlib.Core.List.{List, [], _∷_, map, List·Memᴰ·head, List·Memᴰ·tail}
+use Prim.Native.Nat.{ℕ, _+_, _*_, _^_, _≤_, _<_}
 use native.Mathlib.Omega.{arith}
-use lib.ListN.{length, take, drop, replicate, length-map}
+use lib.ListN.{length, take, drop, length-map}
 use lib.Seq.{drop-drop, drop-at, take-at}
 use borrow.Author.Tests.{le-leb}
 use Rattle.basics.proofs.Tests.{test-leb}
@@ -32,8 +32,9 @@ use Rattle.rostercheck.specs.RosterCheck.{rosterCheck}
 use Rattle.reader.specs.Reader.{tilesCheck, fileOrder, fileCount, fileCheck, readOf}
 use Rattle.reader.proofs.ReaderLaws.{tilesCheck-words, readOf-accepted}
 use Rattle.sections.specs.Sections.{wordsBytes, entriesBytes}
-use Rattle.writer.specs.Writer.{fileOf, writeCheck, writeOf}
+use Rattle.writer.specs.Writer.{fileOf, writeCheck}
 use Rattle.writer.proofs.WriterLaws.{length-wordsBytes, fileOf-bytes, writeOf-accepted}
+use Rattle.mapfile.specs.RoundTrip.{ReadWritten}
 use Rattle.mapfile.proofs.Back.{words-back, roster-back}
 
 -- a file is accepted where its items are
@@ -92,9 +93,7 @@ slots-accounts : (t : ℕ) (slots : List ℕ) (u : Tile) → u ∈ tilesIn t slo
 unfolding tilesIn
 slots-accounts t slots u m = tiles-accounts (take t slots) u m
 
-pub read-written : (n t : ℕ) (slots file others : List ℕ) → writeCheck n t slots file ≡ accepted → t ≤ length others →
-    readOf (take (writeOf n t slots file .answer .length) (writeOf n t slots file .storage)) others
-    ≡ record { answer = record { number = accepted; order = n; tiles = t }; storage = take t slots ++ replicate (length others - t) 0 }
+pub read-written : ReadWritten
 unfolding writeCheck
 read-written n t slots file others e c =
     let a = else-inv (listCheck n t slots) _ e in

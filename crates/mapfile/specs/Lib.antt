@@ -1,0 +1,2 @@
+-- What is promised of the map file.
+pub mod RoundTrip
