@@ -1,16 +1,16 @@
 -- The worked lines of the plain bed, computed by the checker.
 use mathlib.Core.Path.{refl}
 use Rattle.basics.specs.Choice.{if, some, tabulate}
-use Rattle.refusal.specs.Checks.{must}
+use Rattle.refusal.specs.Checks.{must, unless}
 use Rattle.morton.specs.Morton.{morton, column, row}
 use Rattle.quadtree.specs.Raster.{aligned, uniform, paint}
 use Rattle.quadtree.specs.Quadtree.{single, four, blocks, quadtree}
 use Rattle.bed.specs.Places.{placeOf, pixelAt, scanned, rows}
-use Rattle.bed.specs.Bed.{hasUnscanned, putPixel, feedPixels, feedBed, blockIn, claimCheck}
+use Rattle.bed.specs.Bed.{hasUnscanned, putPixel, pixelCheck, feedPixels, feedBed, blockIn, claimCheck}
 use Rattle.bed.specs.Worked.{PlainLines}
 
 pub plain-lines : PlainLines
-unfolding if some tabulate must morton column row aligned uniform paint single four blocks quadtree placeOf pixelAt scanned rows hasUnscanned putPixel feedPixels feedBed blockIn claimCheck
+unfolding if some tabulate must unless morton column row aligned uniform paint single four blocks quadtree placeOf pixelAt scanned rows hasUnscanned putPixel pixelCheck feedPixels feedBed blockIn claimCheck
 plain-lines = record {
   M-six-slots = (refl, refl);
   M-scanned = refl;

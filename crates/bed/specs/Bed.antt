@@ -4,6 +4,7 @@
 --     freshBed k n            a fresh scan: no pixel scanned, every account 0
 --     hasUnscanned b          a somebody's pixel is unscanned
 --     putPixel b a            the account a put on the next place
+--     isAccount a             the number a is that of an account, nobody's or somebody's
 --     pixelCheck m b a        23, 24, 25 of the account a on the next place of the bed b, with m slots
 --     Fed                     what a feed answers, with the bed that it leaves
 --     feedPixels m k b bytes   the accounts in turn, k taken before, up to the first that is refused
@@ -45,10 +46,13 @@ putPixel b a =
     let z : ℕ = pixelAt (b .kind) (b .order) (b .scanned) in
     bedOf (b .kind) (b .order) (b .scanned + 1) (paint (b .account) z (z + 1) a)
 
+abbrev pub isAccount : ℕ → Bool
+isAccount a = leb a highestAccount
+
 unfoldable pub pixelCheck : ℕ → Bed → ℕ → ℕ
 pixelCheck m b a =
     must (not (eqb (b .scanned) (4 ^ b .order))) scanFull
-    (must (leb a highestAccount) accountTooLarge
+    (must (isAccount a) accountTooLarge
     (must (leb (length (quadtree (b .order) (putPixel b a .account))) m) slotsExceeded accepted))
 
 pub record Fed : Type 0 where
@@ -75,5 +79,5 @@ claimed f c k a = paint f c (c + 4 ^ k) a
 unfoldable pub claimCheck : ℕ → ℕ → (ℕ → ℕ) → ℕ → ℕ → ℕ → ℕ
 claimCheck m n f c k a =
     must (blockIn n c k) blockInvalid
-    (must (leb a highestAccount) accountTooLarge
+    (must (isAccount a) accountTooLarge
     (must (leb (length (quadtree n (claimed f c k a))) m) slotsExceeded accepted))

@@ -9,7 +9,7 @@ use lib.ListN.{take, drop, getD}
 use Rattle.refusal.specs.Refusal.{accepted, tileUnscanned, scanFull, accountTooLarge, slotsExceeded}
 use Rattle.bed.specs.declared.Kind.the-variants.{Rows}
 use Rattle.bed.specs.Places.{rows}
-use Rattle.bed.specs.Bed.{Bed, Fed, freshBed, feedBed, claimed, claimCheck}
+use Rattle.bed.specs.Bed.{Bed, bedOf, Fed, freshBed, feedBed, claimed, claimCheck}
 
 -- bed M, order 2, by Morton number and by rows
 abbrev pub bedM : ℕ → ℕ
@@ -20,7 +20,7 @@ rowsM = 5 ∷ 5 ∷ 0 ∷ 0 ∷ 5 ∷ 5 ∷ 0 ∷ 9 ∷ 9 ∷ 0 ∷ 9 ∷ 9 ∷ 
 
 -- a bed of order 2 by rows with the first row scanned and nobody's, and then (3, size 0) claimed
 abbrev pub claimedEarly : Bed
-claimedEarly = record { order = 2; kind = Rows; scanned = 4; account = claimed (λ z. 0) 3 0 5 }
+claimedEarly = bedOf Rows 2 4 (claimed (λ z. 0) 3 0 5)
 
 abbrev pub rowScan : ℕ → ℕ → List ℕ → Fed
 rowScan n m bytes = feedBed m (freshBed Rows n) bytes
