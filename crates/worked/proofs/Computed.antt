@@ -14,7 +14,8 @@ use Rattle.bed.specs.Places.{placeOf, pixelAt, scanned, rows}
 use Rattle.bed.specs.Bed.{putPixel, pixelCheck, feedPixels, blockIn, claimCheck}
 use Rattle.reading.specs.Part.{counted, partCheck, partOf, sliceOf}
 use Rattle.scan.specs.FreshScan.{freshOf}
-use Rattle.scan.specs.Feed.{coversUnscanned, opening, fedTo, feedOf}
+use Rattle.scan_check.specs.Opening.{coversUnscanned, opening}
+use Rattle.scan.specs.Feed.{fedTo, feedOf}
 use Rattle.claim.specs.Claim.{claimRefusal, claimOf}
 use Rattle.worked.specs.Table.{Starred}
 

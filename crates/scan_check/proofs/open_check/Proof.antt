@@ -1,11 +1,11 @@
 -- List checking, then 21 and 22.
-use Rattle.scan.proofs.Opening.{open-list, open-pixels, open-tiles, open-passed}
+use Rattle.scan_check.proofs.Opening.{open-list, open-pixels, open-tiles, open-passed}
 use Rattle.listcheck.proofs.Accepts.{listCheck-valid}
 use mathlib.Core.Path.{_∙_, sym}
 use native.Mathlib.Omega.{arith}
 use borrow.Author.Needs.{needs}
-use Rattle.scan.proofs.open_check.Statement.{statement}
-use Rattle.scan.proofs.open_check.Tie as tie
+use Rattle.scan_check.proofs.open_check.Statement.{statement}
+use Rattle.scan_check.proofs.open_check.Tie as tie
 
 returns : tie.Need-returns
 returns c =

@@ -1,8 +1,8 @@
 -- By kind: row and column of the pixel, or its number itself.
-use Rattle.scan.proofs.Unscanned.{place-rows, place-fits, place-morton}
+use Rattle.scan_check.proofs.Unscanned.{place-rows, place-fits, place-morton}
 use borrow.Author.Needs.{needs}
-use Rattle.scan.proofs.place.Statement.{statement}
-use Rattle.scan.proofs.place.Tie as tie
+use Rattle.scan_check.proofs.place.Statement.{statement}
+use Rattle.scan_check.proofs.place.Tie as tie
 
 add-result : tie.Need-add-result
 add-result c =

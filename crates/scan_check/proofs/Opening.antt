@@ -14,9 +14,9 @@ use Rattle.tile.specs.Slots.{tilesIn}
 use Rattle.listcheck.specs.ListCheck.{listCheck}
 use Rattle.listcheck.proofs.Accepts.{listCheck-valid}
 use Rattle.bed.specs.declared.Scan.{Scan}
-use Rattle.feeding.specs.Feeding.{Opened}
-use Rattle.scan.specs.Feed.{coversUnscanned, opening}
-use Rattle.scan.proofs.Unscanned.{covers-blank}
+use Rattle.scan_check.specs.Opened.{Opened}
+use Rattle.scan_check.specs.Opening.{coversUnscanned, opening}
+use Rattle.scan_check.proofs.Unscanned.{covers-blank}
 
 test-none : (b : Bool) → Test (b ≡ false) (not b)
 test-none true = fails (λ e. let z : _≡_ {A = ℕ} 0 1 = cc in omega arith)

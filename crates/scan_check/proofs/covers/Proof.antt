@@ -1,5 +1,5 @@
 -- The last pixel decides: `unscanned-last`.
-use Rattle.scan.proofs.Unscanned.{unscanned-last}
+use Rattle.scan_check.proofs.Unscanned.{unscanned-last}
 use Rattle.bed.specs.Places.{placeOf}
 use Rattle.quadtree.proofs.Alignment.{area-pos}
 use Rattle.quadtree.proofs.Chains.{quadrant-stop}
@@ -9,8 +9,8 @@ use mathlib.Core.Path.{_≡_, _∙_, ap}
 use Prim.Native.Nat.{_-_}
 use native.Mathlib.Omega.{arith}
 use borrow.Author.Needs.{needs}
-use Rattle.scan.proofs.covers.Statement.{statement}
-use Rattle.scan.proofs.covers.Tie as tie
+use Rattle.scan_check.proofs.covers.Statement.{statement}
+use Rattle.scan_check.proofs.covers.Tie as tie
 
 sub-place : tie.Need-sub-place
 sub-place c = omega (arith, c .stop .ensures, area-pos (tileOf (c .before .args .word) .size))

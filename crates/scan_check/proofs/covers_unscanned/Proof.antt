@@ -1,20 +1,20 @@
 -- The loop keeps that the words from i on decide.
-use Rattle.scan.proofs.Unscanned.{word-quadrant, covers-found, covers-on, covers-none}
-use Rattle.scan.specs.Feed.{coversUnscanned}
+use Rattle.scan_check.proofs.Unscanned.{word-quadrant, covers-found, covers-on, covers-none}
+use Rattle.scan_check.specs.Opening.{coversUnscanned}
 use Rattle.bed.specs.Places.{scanOf}
 use Rattle.tile.specs.Slots.{tilesIn}
-use Rattle.merging.specs.Merging as merging
+use Rattle.tile.specs.Slots as words
 use mathlib.Core.Path.{_≡_, _∙_, refl, sym}
 use Prim.Native.Nat.{_-_, _≤_}
 use native.Mathlib.Omega.{arith}
 use lib.ListN.{take, drop}
 use borrow.Author.Needs.{needs}
-use Rattle.scan.proofs.covers_unscanned.Statement.{statement}
-use Rattle.scan.proofs.covers_unscanned.Tie as tie
+use Rattle.scan_check.proofs.covers_unscanned.Statement.{statement}
+use Rattle.scan_check.proofs.covers_unscanned.Tie as tie
 
 abbrev Inv-loop : tie.InvT-loop
 Inv-loop slots kind order pixels tiles i₀ i =
-    (i ≤ tiles) × (coversUnscanned (scanOf kind order pixels tiles) (tilesIn tiles slots) ≡ coversUnscanned (scanOf kind order pixels tiles) (merging.tiles (drop i (take tiles slots))))
+    (i ≤ tiles) × (coversUnscanned (scanOf kind order pixels tiles) (tilesIn tiles slots) ≡ coversUnscanned (scanOf kind order pixels tiles) (words.tiles (drop i (take tiles slots))))
 
 abbrev μ-loop : tie.MeasureT-loop
 μ-loop slots kind order pixels tiles i₀ i = tiles - i

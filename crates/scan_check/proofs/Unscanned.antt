@@ -21,7 +21,7 @@ use Rattle.basics.proofs.ChoiceLaws.{Some, test-some}
 use Rattle.morton.specs.Morton.{column, row, sideBits}
 use Rattle.morton.proofs.MortonLaws.{column-wide, row-wide}
 use Rattle.tile.specs.Tile.{Tile, stop, tileOf, highestOrder}
-use Rattle.tile.specs.Slots.{tilesIn}
+use Rattle.tile.specs.Slots.{tiles, tilesIn}
 use Rattle.tile.proofs.SlotTiles.{tilesIn-in}
 use Rattle.quadtree.specs.Raster.{accountAt, Quadrant}
 use Rattle.quadtree.specs.Valid.{Valid}
@@ -34,9 +34,7 @@ use Rattle.bed.specs.declared.Kind.the-variants.{Rows, Morton}
 use Rattle.bed.specs.declared.Scan.{Scan}
 use Rattle.bed.specs.Places.{placeOf, scanned}
 use Rattle.bed.proofs.PlaceLaws.{placeOf-lt, placeOf-last}
-use Rattle.merging.specs.Merging.{tiles}
-use Rattle.scan.specs.Covering.{unscannedIn}
-use Rattle.scan.specs.Feed.{coversUnscanned}
+use Rattle.scan_check.specs.Opening.{unscannedIn, coversUnscanned}
 
 module _ (k : Kind) (n z x y : ℕ) (e : k ≡ Rows) (h : n ≤ highestOrder) (l : z < 4 ^ n) (ex : x ≡ row sideBits z) (ey : y ≡ column sideBits z) where
   row-is : x ≡ row n z
