@@ -1,11 +1,11 @@
--- Row 34's two tests.
+-- The two tests of 34.
 use borrow.Author.Tests.{lt-ltb, le-ltb, lt-leb, le-leb}
 use Rattle.refusal.specs.Checks.{must}
 use Rattle.tile.specs.Tile.{highestAccount}
-use Rattle.rights.specs.Rights.{askerCheck}
+use Rattle.checks.specs.Asked.{askerCheck}
 use native.Mathlib.Omega.{arith}
-use Rattle.rights.proofs.asker_check.Statement.{statement}
-use Rattle.rights.proofs.asker_check.Tie as tie
+use Rattle.checks.proofs.asker.Statement.{statement}
+use Rattle.checks.proofs.asker.Tie as tie
 
 returns : tie.Need-returns
 unfolding askerCheck must
@@ -23,5 +23,5 @@ returns-3 c =
     let a = c .before .before .args .asking in
     simp (lt-ltb 0 a (omega (arith, c .before .if1 .left)), le-leb a highestAccount (omega arith))
 
-pub asker-check-spec : {M : Type 1} → statement M
-asker-check-spec = tie.close (tie.spec returns returns-2 returns-3)
+pub asker-spec : {M : Type 1} → statement M
+asker-spec = tie.close (tie.spec returns returns-2 returns-3)
