@@ -1,2 +1,3 @@
 -- The place of a Morton number among words.
+pub mod Count
 pub mod Cut
