@@ -7,17 +7,16 @@
 --     lookupOf-refused, lookupOf-found         the answer by how the checks end
 use mathlib.Core.Path.{_≡_, refl, sym, _∙_}
 use mathlib.Core.List.{List, _∷_}
-use Prim.Native.Nat.{ℕ, zero, suc, _+_, _*_, _%_, _^_, _≤_, _<_}
-use native.Mathlib.Nat.{pow-le-pow-right}
+use Prim.Native.Nat.{ℕ, zero, suc, _+_, _^_, _≤_, _<_}
 use native.Mathlib.Decide.{decLt}
 use native.Mathlib.Omega.{arith}
 use lib.Dec.{ltb}
 use lib.ListN.{length, getD}
 use Rattle.basics.specs.Choice.{if}
-use Rattle.basics.proofs.Tests.{Test, test-leb, test-and}
+use Rattle.basics.proofs.Tests.{test-leb}
 use Rattle.basics.proofs.ChoiceLaws.{if-yes, if-no}
-use Rattle.refusal.specs.Refusal.{accepted, pointOutside}
-use Rattle.refusal.proofs.CheckLaws.{must-on, must-off, must-inv, else-on, else-inv, unless-on, unless-off}
+use Rattle.refusal.specs.Refusal.{accepted}
+use Rattle.refusal.proofs.CheckLaws.{else-inv, unless-on, unless-off}
 use Rattle.morton.specs.Morton.{morton, sideBits}
 use Rattle.morton.proofs.MortonLaws.{morton-wide}
 use Rattle.tile.specs.Tile.{Tile, stop, tileOf, highestOrder}

@@ -19,7 +19,7 @@ use Rattle.basics.specs.Choice.{if}
 use Rattle.basics.proofs.Tests.{Test, test-leb, test-and}
 use Rattle.basics.proofs.ChoiceLaws.{if-yes, if-no}
 use Rattle.refusal.specs.Refusal.{accepted}
-use Rattle.refusal.proofs.CheckLaws.{must-inv, else-inv, unless-on, unless-off}
+use Rattle.refusal.proofs.CheckLaws.{else-inv, unless-on, unless-off}
 use Rattle.tile.specs.Tile.{Tile, stop, tileOf, highestOrder}
 use Rattle.tile.specs.Slots.{tilesIn}
 use Rattle.tile.proofs.SlotsLaws.{length-tilesIn}

@@ -1,17 +1,13 @@
 -- Feed (document 01, "Scanning"), through the plain bed. Definitions only.
 --     feedOf c slots bytes    the offered call: refused by its opening checks it changes nothing; past them it answers what the feed of
 --                             the plain bed answers, and leaves the linear quadtree of the bed that this leaves, with the other slots 0
-use mathlib.Core.Bool.{Bool, false, not, _||_}
-use mathlib.Core.List.{List, [], _∷_}
-use Prim.Native.Nat.{ℕ, _^_}
-use lib.Dec.{leb}
+use mathlib.Core.List.{List}
+use Prim.Native.Nat.{ℕ}
 use lib.ListN.{length}
-use Rattle.refusal.specs.Refusal.{accepted, scannedTooLarge, tileUnscanned}
-use Rattle.refusal.specs.Checks.{must, orElse, unless, After}
+use Rattle.refusal.specs.Checks.{unless, After}
 use Rattle.tile.specs.Tile.{Tile}
-use Rattle.tile.specs.Slots.{tilesIn, filled}
+use Rattle.tile.specs.Slots.{filled}
 use Rattle.quadtree.specs.Quadtree.{quadtree}
-use Rattle.listcheck.specs.ListCheck.{listCheck}
 use Rattle.bed.specs.declared.Scan.{Scan}
 use Rattle.bed.specs.Places.{scanOf}
 use Rattle.bed.specs.Bed as bed

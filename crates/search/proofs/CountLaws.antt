@@ -9,14 +9,14 @@
 use mathlib.Core.Path.{_≡_, refl}
 use mathlib.Core.Bool.{Bool}
 use mathlib.Core.List.{List, [], _∷_, List·Memᴰ·head, List·Memᴰ·tail}
-use Prim.Native.Nat.{ℕ, zero, suc, _+_, _-_, _^_, _≤_, _<_}
+use Prim.Native.Nat.{ℕ, zero, suc, _-_, _≤_, _<_}
 use native.Mathlib.Decide.{decLt}
 use native.Mathlib.Omega.{arith}
 use lib.ListN.{length, getD}
 use Rattle.basics.specs.Choice.{if}
-use Rattle.basics.proofs.Tests.{Test, holds, fails, test-leb, test-and}
+use Rattle.basics.proofs.Tests.{Test, holds, fails, test-leb}
 use Rattle.basics.proofs.ChoiceLaws.{if-yes, if-no}
-use Rattle.tile.specs.Tile.{Tile, stop, tileOf}
+use Rattle.tile.specs.Tile.{Tile, tileOf}
 use Rattle.tile.specs.Slots.{tilesIn}
 use Rattle.tile.proofs.SlotsLaws.{length-tilesIn}
 use Rattle.quadtree.specs.Raster.{_∈_}

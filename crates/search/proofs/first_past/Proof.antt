@@ -5,8 +5,8 @@ use native.Mathlib.Omega.{arith}
 use lib.ListN.{length, getD}
 use borrow.Author.Needs.{needs}
 use Rattle.tile.specs.Tile.{stop, tileOf}
-use Rattle.plan.proofs.first_past.Statement.{statement}
-use Rattle.plan.proofs.first_past.Tie as tie
+use Rattle.search.proofs.first_past.Statement.{statement}
+use Rattle.search.proofs.first_past.Tie as tie
 
 abbrev Inv-loop : tie.InvT-loop
 Inv-loop list from x a₀ b₀ a b = (from ≤ a) × (a ≤ b) × (b ≤ length list) × (from < a → stop (tileOf (getD list (a - 1) 0)) ≤ x) × (b < length list → x < stop (tileOf (getD list b 0)))
