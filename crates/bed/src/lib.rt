@@ -1,9 +1,6 @@
-// The scan record (document 01, "Scanning") with its limits, and the test of a block.
+// The scan record (document 01, "Scanning") with its limits.
 ghost use mathlib.Core.Path.{_≡_};
-ghost use Prim.Native.Nat.{_≤_};
-ghost use Rattle.tile.specs.Tile.{highestOrder};
 ghost use Rattle.bed.specs.Places.{scanOf};
-ghost use Rattle.bed.specs.Bed.{blockIn};
 
 // By rows, or in Morton order.
 pub enum Kind {
@@ -35,18 +32,4 @@ impl Scan {
             tiles: 0,
         }
     }
-}
-
-// Is the block of a size at a corner a quadrant of a bed of the order?
-pub fn is_block(order: u32, corner: u32, size: u32) -> bool
-    requires { ⌜ order ≤ highestOrder ⌝ }
-    ensures { λ r. ⌜ r ≡ blockIn order corner size ⌝ }
-{
-    if order < size {
-        return false;
-    }
-    if tile::area(order) <= corner {
-        return false;
-    }
-    corner % tile::area(size) == 0
 }

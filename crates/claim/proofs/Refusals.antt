@@ -1,7 +1,6 @@
 -- The refusals of a claim, in their order.
---     blockCheck n c k a     32 and 24 alone
 --     refusal-listed         a list that is refused decides
---     refusal-checked        then 32 or 24
+--     refusal-block, -given  then 32, then 24
 --     checked-claimable      what has passed is claimable
 --     refusal-claimable      and only 25 is left
 --     claimOf-refused, -done   the answer and the storage, by the refusal
@@ -24,19 +23,17 @@ use Rattle.listcheck.specs.ListCheck.{listCheck}
 use Rattle.listcheck.proofs.Accepts.{listCheck-valid}
 use Rattle.bed.specs.Bed.{blockIn, claimed, claimCheck}
 use Rattle.bed.proofs.BedLaws.{test-blockIn}
+use Rattle.checks.specs.Asked.{blockCheck, givenCheck}
+use Rattle.checks.proofs.AskedLaws.{block-passed}
 use Rattle.plan.specs.Plan.{Claimable}
 use Rattle.claim.specs.declared.Claimed.{Claimed}
 use Rattle.claim.specs.Claim.{claimRefusal, claimOf}
 
-abbrev pub blockCheck : ℕ → ℕ → ℕ → ℕ → ℕ
-blockCheck n c k a = must (blockIn n c k) blockInvalid (must (leb a highestAccount) accountTooLarge accepted)
-
--- what comes behind two checks does not matter where one of them refuses
-must-two : (b d : Bool) (r q rest : ℕ) → (must b r (must d q accepted) ≡ accepted → ⊥) → must b r (must d q rest) ≡ must b r (must d q accepted)
+-- what comes behind a check does not matter where it refuses
+must-refused : (b : Bool) (r rest : ℕ) → (must b r accepted ≡ accepted → ⊥) → must b r rest ≡ must b r accepted
 unfolding must
-must-two true true r q rest ne = absurd (ne refl)
-must-two true false r q rest ne = refl
-must-two false d r q rest ne = refl
+must-refused true r rest ne = absurd (ne refl)
+must-refused false r rest ne = refl
 
 module _ (n t : ℕ) (slots : List ℕ) (c k a : ℕ) where
   abbrev ts : List Tile
@@ -59,16 +56,22 @@ module _ (n t : ℕ) (slots : List ℕ) (c k a : ℕ) where
     unfolding claimRefusal
     behind = else-on (listCheck n t slots) _ e
 
-    pub refusal-checked : (blockCheck n c k a ≡ accepted → ⊥) → claimRefusal n t slots c k a ≡ blockCheck n c k a
-    unfolding claimCheck
-    refusal-checked ne = behind ∙ must-two (blockIn n c k) (leb a highestAccount) blockInvalid accountTooLarge _ ne
+    pub refusal-block : (blockCheck n c k ≡ accepted → ⊥) → claimRefusal n t slots c k a ≡ blockCheck n c k
+    unfolding claimCheck blockCheck
+    refusal-block ne = behind ∙ must-refused (blockIn n c k) blockInvalid _ ne
 
-    pub checked-claimable : blockCheck n c k a ≡ accepted → (t ≤ length slots) × Claimable n (tilesIn t slots) c k a
-    checked-claimable f =
-        let l = listCheck-valid n t slots .0 e in
-        let b = must-inv (test-blockIn n c k) (omega arith) f in
-        let d = must-inv (test-leb a highestAccount) (omega arith) (b .1) in
-        (l .1, record { order = l .0; valid = l .2; size = b .0 .0; inside = b .0 .1 .0; aligned = b .0 .1 .1; account = d .0 })
+    module _ (f : blockCheck n c k ≡ accepted) where
+      pub refusal-given : (givenCheck a ≡ accepted → ⊥) → claimRefusal n t slots c k a ≡ givenCheck a
+      unfolding claimCheck givenCheck
+      refusal-given ne = behind ∙ must-on blockInvalid _ (test-blockIn n c k) (block-passed n c k f) ∙ must-refused (leb a highestAccount) accountTooLarge _ ne
+
+      pub checked-claimable : givenCheck a ≡ accepted → (t ≤ length slots) × Claimable n (tilesIn t slots) c k a
+      unfolding givenCheck
+      checked-claimable g =
+          let l = listCheck-valid n t slots .0 e in
+          let b = block-passed n c k f in
+          let d = must-inv (test-leb a highestAccount) (omega arith) g in
+          (l .1, record { order = l .0; valid = l .2; size = b .0; inside = b .1 .0; aligned = b .1 .1; account = d .0 })
 
   pub refusal-claimable : t ≤ length slots → Claimable n (tilesIn t slots) c k a → claimRefusal n t slots c k a ≡ must (leb (length ts) (length slots)) slotsExceeded accepted
   unfolding claimCheck

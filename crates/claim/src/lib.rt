@@ -1,13 +1,9 @@
 // Claims: every pixel of a quadrant block gets an account. The list changes in place, by one move of its tail and a few words.
 ghost use mathlib.Core.Path.{_≡_};
 ghost use Prim.Native.Nat.{_≤_};
-ghost use lib.Dec.{leb};
 ghost use lib.ListN.{length};
-ghost use Rattle.refusal.specs.Refusal.{accepted, accountTooLarge, blockInvalid};
-ghost use Rattle.refusal.specs.Checks.{must, After};
-ghost use Rattle.tile.specs.Tile.{highestOrder, highestAccount};
+ghost use Rattle.refusal.specs.Checks.{After};
 ghost use Rattle.tile.specs.Slots.{tilesIn};
-ghost use Rattle.bed.specs.Bed.{blockIn};
 ghost use Rattle.plan.specs.Plan.{Claimable};
 ghost use Rattle.claim.specs.Claim.{claimOf};
 
@@ -16,21 +12,6 @@ ghost use Rattle.claim.specs.Claim.{claimOf};
 pub struct Claimed {
     pub number: u32,
     pub tiles: usize,
-}
-
-// The first of 32 and 24 that a claim breaks.
-fn block_check(order: u32, corner: u32, size: u32, account: u8) -> u32
-    requires { ⌜ order ≤ highestOrder ⌝ }
-    ensures { λ r. ⌜ r ≡ must (blockIn order corner size) blockInvalid (must (leb account highestAccount) accountTooLarge accepted) ⌝ }
-{
-    let block = bed::is_block(order, corner, size);
-    if !block {
-        return refusal::BLOCK_INVALID;
-    }
-    if bed::Scan::HIGHEST_ACCOUNT < account {
-        return refusal::ACCOUNT_TOO_LARGE;
-    }
-    refusal::ACCEPTED
 }
 
 // The claim of a quadrant block in a valid list: 25, or the stores.
@@ -81,10 +62,17 @@ pub fn claim(
             tiles: 0,
         };
     }
-    let checked = block_check(order, corner, size, account);
-    if checked != refusal::ACCEPTED {
+    let block = checks::block(order, corner, size);
+    if block != refusal::ACCEPTED {
         return Claimed {
-            number: checked,
+            number: block,
+            tiles: 0,
+        };
+    }
+    let given = checks::given(account);
+    if given != refusal::ACCEPTED {
+        return Claimed {
+            number: given,
             tiles: 0,
         };
     }

@@ -33,7 +33,8 @@ use Rattle.bed.specs.Bed as bed
 use Rattle.bed.specs.Bed.{Bed, bedOf, freshBed, claimed, claimCheck, feedBed, feedPixels, hasUnscanned}
 use Rattle.bed.proofs.BedLaws.{Good, paint-agree, paint-accounts, claimCheck-agree, FedAlike, feedPixels-alike}
 use Rattle.scan.specs.FreshScan.{freshOf}
-use Rattle.scan.specs.Feed.{opening, fedTo, feedOf}
+use Rattle.scan_check.specs.Opening.{opening}
+use Rattle.scan.specs.Feed.{fedTo, feedOf}
 use Rattle.claim.specs.Claim.{claimRefusal, claimOf}
 use Rattle.reader.specs.Reader.{fileCheck, fileOrder, fileCount, fileWords, readOf, readBed}
 use Rattle.reader.proofs.ReaderLaws.{Accepted, readOf-valid}

@@ -19,7 +19,7 @@ use Rattle.quadtree.proofs.Linear.{tiling-held}
 use Rattle.bed.specs.declared.Kind.{Kind}
 use Rattle.bed.specs.Places.{placeOf, scanned, scanOf}
 use Rattle.bed.specs.Bed.{hasUnscanned}
-use Rattle.scan.specs.Feed.{coversUnscanned}
+use Rattle.scan_check.specs.Opening.{coversUnscanned}
 
 abbrev Unscanned : Kind → ℕ → ℕ → ℕ → Type 0
 Unscanned k n s z = placeOf k n z < s → ⊥

@@ -13,7 +13,7 @@ use lib.Seq.{drop-cons, drop-length}
 use Rattle.refusal.specs.Refusal.{accepted}
 use Rattle.refusal.proofs.CheckLaws.{unless-on, unless-off}
 use Rattle.tile.specs.Tile.{tileOf}
-use Rattle.tile.specs.Slots.{tilesIn}
+use Rattle.tile.specs.Slots.{tiles, tilesIn}
 use Rattle.tile.proofs.SlotTiles.{tilesIn-in}
 use Rattle.quadtree.specs.Raster.{accountAt}
 use Rattle.quadtree.proofs.Tiling.{on-corner, placed}
@@ -22,11 +22,11 @@ use Rattle.bed.specs.declared.Kind.the-variants.{Morton}
 use Rattle.bed.specs.declared.Scan.{Scan}
 use Rattle.bed.specs.Places.{placeOf}
 use Rattle.bed.specs.Bed as bed
-use Rattle.merging.specs.Merging.{tiles}
 use Rattle.gap.specs.Gap.{held, Fits, Low}
 use Rattle.gap.proofs.Parts.{held-front}
 use Rattle.feeding.specs.Shown.{shownBed}
-use Rattle.feeding.specs.Feeding.{Trails, Holds, SteppedOn, Stepped, Opened, FedTo}
+use Rattle.scan_check.specs.Opened.{Opened}
+use Rattle.feeding.specs.Feeding.{Trails, Holds, SteppedOn, Stepped, FedTo}
 use Rattle.feeding.specs.declared.Step.{Step}
 use Rattle.feeding.proofs.NextPlace.{holds-next}
 use Rattle.feeding.proofs.Steps.{check-full}

@@ -9,7 +9,8 @@ ghost use Rattle.bed.specs.Bed.{feedPixels};
 ghost use Rattle.merging.specs.Merging.{Levels};
 ghost use Rattle.gap.specs.Gap.{Fits, Placed};
 ghost use Rattle.feeding.specs.Shown.{shownBed};
-ghost use Rattle.feeding.specs.Feeding.{AtPlace, Trails, Stepped, Opened, FedTo};
+ghost use Rattle.scan_check.specs.Opened.{Opened};
+ghost use Rattle.feeding.specs.Feeding.{AtPlace, Trails, Stepped, FedTo};
 
 // A pixel's Morton number, and its levels: the size of the largest block that ends with it, which is as often as it can merge.
 pub struct Place {

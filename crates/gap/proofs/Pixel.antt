@@ -14,6 +14,7 @@ use lib.ListN.{length, take, drop, getD, length-append, length-map, length-drop,
 use lib.Seq.{slice, take-suc, drop-cons, length-take-le}
 use borrow.Author.Tests.{lt-ltb, le-ltb}
 use Rattle.tile.specs.Tile.{Tile, tile, stop, tileOf}
+use Rattle.tile.specs.Slots.{tiles}
 use Rattle.moves.proofs.Moves.{front-pieces}
 use Rattle.quadtree.specs.Raster.{_∈_}
 use Rattle.quadtree.specs.Quadtree.{quadtree}
@@ -24,7 +25,7 @@ use Rattle.quadtree.proofs.Siblings.{NoFour, no-four-left, no-four-right}
 use Rattle.quadtree.proofs.ValidLaws.{quadtree-tiling, quadtree-no-four, quadtree-cong}
 use Rattle.quadtree.specs.Tiling.{Between, Apart}
 use Rattle.quadtree.proofs.Merge.{tileRun-front, between-quadtree}
-use Rattle.merging.specs.Merging.{tiles, upTo, Merged}
+use Rattle.merging.specs.Merging.{upTo, Merged}
 use Rattle.merging.specs.declared.Top.{Top}
 use Rattle.gap.specs.Gap.{held, Fits, Awaits, dotted, PlacedOn, Placed, Pushed, Low, High, Moved}
 use Rattle.gap.specs.declared.Gap.{Gap}

@@ -17,9 +17,10 @@ use Prim.Native.Nat.{ℕ, _+_, _-_, _^_, _≤_, _<_}
 use lib.Dec.{ltb}
 use lib.ListN.{length, take, drop, getD}
 use Rattle.tile.specs.Tile.{Tile, tileOf}
+use Rattle.tile.specs.Slots.{tiles}
 use Rattle.quadtree.specs.Raster.{Aligned, paint}
 use Rattle.quadtree.specs.Quadtree.{quadtree}
-use Rattle.merging.specs.Merging.{tiles, upTo, Merged}
+use Rattle.merging.specs.Merging.{upTo, Merged}
 use Rattle.merging.specs.declared.Top.{Top}
 use Rattle.gap.specs.declared.Gap.{Gap}
 use Rattle.gap.specs.declared.Outcome.{Outcome}

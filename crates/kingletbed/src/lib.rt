@@ -8,8 +8,8 @@ ghost use Rattle.listcheck.specs.ListCheck.{listCheck};
 ghost use Rattle.scan.specs.FreshScan.{freshOf};
 ghost use Rattle.scan.specs.Feed.{feedOf};
 ghost use Rattle.decode.specs.Decode.{decodeOf};
-ghost use Rattle.reading.specs.Lookup.{lookupOf};
-ghost use Rattle.reading.specs.Part.{partOf};
+ghost use Rattle.lookup.specs.Lookup.{lookupOf};
+ghost use Rattle.part.specs.Part.{partOf};
 ghost use Rattle.rights.specs.Rights.{rightsOf};
 ghost use Rattle.claim.specs.declared.Claimed.{Claimed};
 ghost use Rattle.claim.specs.Claim.{claimOf};
@@ -21,9 +21,9 @@ ghost use Rattle.kingletbed.specs.Exports.{kindOf, kindNumber, freshNumb
 use bed::Kind;
 use bed::Scan;
 use claim::Claimed;
+use lookup::Found;
+use part::Part;
 use reader::Reading;
-use reading::Found;
-use reading::Part;
 use rights::Right;
 use writer::Written;
 
@@ -131,14 +131,14 @@ pub extern "C" fn kb_decode(order: u32, tiles: usize, slots: &[u32], raster: &mu
 pub extern "C" fn kb_lookup(order: u32, tiles: usize, slots: &[u32], column: u32, row: u32) -> Found
     ensures { λ r. ⌜ r ≡ lookupOf order tiles (now (slots .entry)) column row ⌝ }
 {
-    reading::lookup(order, tiles, slots, column, row)
+    lookup::lookup(order, tiles, slots, column, row)
 }
 
 #[no_mangle]
 pub extern "C" fn kb_part(order: u32, tiles: usize, slots: &[u32], corner: u32, size: u32) -> Part
     ensures { λ r. ⌜ r ≡ partOf order tiles (now (slots .entry)) corner size ⌝ }
 {
-    reading::quadrant_part(order, tiles, slots, corner, size)
+    part::quadrant_part(order, tiles, slots, corner, size)
 }
 
 #[no_mangle]

@@ -1,8 +1,9 @@
 -- List checking accepts just the valid lists.
 --     wordsCheck-valid   words are accepted just where their tiles are a valid list
 --     listCheck-valid    the offered call accepts just an order, a count and a valid list that are within bounds
+--     listCheck-order    the order of an accepted list
 --     listCheck-filled   a valid list that is left in slots is accepted from them
-use mathlib.Core.Path.{_≡_, refl, _∙_}
+use mathlib.Core.Path.{_≡_, refl, sym, _∙_}
 use mathlib.Core.Logic.{_↔_}
 use mathlib.Core.List.{List, [], _∷_, map, reverseAux}
 use Prim.Native.Nat.{ℕ, _≤_}
@@ -94,6 +95,10 @@ listCheck-valid n t slots = (
       (a .0, b .0, wordsCheck-valid n (a .0) (take t slots) .0 (b .1)),
   λ v. must-pass orderTooLarge (test-leb n highestOrder) (v .0) (must-pass countAboveSlots (test-leb t (length slots)) (v .1) (wordsCheck-valid n (v .0) (take t slots) .1 (v .2))),
 )
+
+-- the order of an accepted list, as code meets it
+pub listCheck-order : (n t : ℕ) (slots : List ℕ) {x : ℕ} → x ≡ listCheck n t slots → x ≡ accepted → n ≤ highestOrder
+listCheck-order n t slots e h = listCheck-valid n t slots .0 (sym e ∙ h) .0
 
 pub listCheck-filled : (n m : ℕ) (ts : List Tile) → n ≤ highestOrder → length ts ≤ m → ((t : Tile) → t ∈ ts → t .account ≤ highestAccount) → Valid n ts → listCheck n (length ts) (filled m ts) ≡ accepted
 listCheck-filled n m ts o l a v =

@@ -30,7 +30,8 @@ use Rattle.bed.proofs.BedLaws.{Good, pixelCheck-passed, FedAlike, feedPixels-al
 use Rattle.feeding.specs.Shown.{shownBed}
 use Rattle.scan.specs.declared.Fed.{Fed}
 use Rattle.scan.specs.FreshScan.{freshOf}
-use Rattle.scan.specs.Feed.{opening, fedTo, feedOf}
+use Rattle.scan_check.specs.Opening.{opening}
+use Rattle.scan.specs.Feed.{fedTo, feedOf}
 use Rattle.decimal.specs.Decimal.{digitsMost}
 use Rattle.decimal.proofs.DecimalLaws.{digitsBy-below}
 use Rattle.decimal.proofs.LinesLaws.{pairLine-most, tripleLine-length}

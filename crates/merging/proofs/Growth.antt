@@ -12,11 +12,12 @@ use native.Mathlib.Omega.{arith}
 use lib.ListN.{length, take, length-append, length-map}
 use lib.Seq.{length-take-le}
 use Rattle.tile.specs.Tile.{Tile, tile, tileOf}
+use Rattle.tile.specs.Slots.{tiles}
 use Rattle.quadtree.specs.Raster.{Aligned}
 use Rattle.quadtree.proofs.Alignment.{area-pos, aligned-zero, aligned-gap, aligned-down}
 use Rattle.quadtree.specs.Tiling.{tileRun, Between}
 use Rattle.quadtree.proofs.Merge.{tileRun-length, between-merge}
-use Rattle.merging.specs.Merging.{tiles, upTo, Levels, EndsWith, Merged}
+use Rattle.merging.specs.Merging.{upTo, Levels, EndsWith, Merged}
 
 pub record Grown (s : List ℕ) (i z a j q : ℕ) : Type 0 where
   pub back : j ≤ i

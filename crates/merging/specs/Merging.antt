@@ -1,5 +1,4 @@
 -- How a pixel merges with the tiles of the words ahead of it: what the contracts of this crate cite. Definitions only.
---     tiles ws             the tiles of words
 --     upTo z a q           the tile of size q and account a that ends with the pixel z
 --     Levels z l           blocks end with the pixel z up to the size l, and no larger one
 --     EndsWith ts e k a    the list ts ends with the three siblings ahead of the tile of size k and account a that ends at e
@@ -9,16 +8,14 @@
 --                          m .at on into the tile of size m .size, and what is left does not end with this tile's siblings
 use mathlib.Core.Path.{_≡_}
 use mathlib.Core.Bool.{Bool, true, false}
-use mathlib.Core.List.{List, _++_, map}
+use mathlib.Core.List.{List, _++_}
 use Prim.Native.Nat.{ℕ, suc, _+_, _-_, _*_, _^_, _≤_}
 use lib.ListN.{length, take}
-use Rattle.tile.specs.Tile.{Tile, tile, tileOf, highestOrder, highestAccount}
+use Rattle.tile.specs.Tile.{Tile, tile, highestOrder, highestAccount}
+use Rattle.tile.specs.Slots.{tiles}
 use Rattle.quadtree.specs.Raster.{Aligned}
 use Rattle.quadtree.specs.Tiling.{tileRun, Between}
 use Rattle.merging.specs.declared.Top.{Top}
-
-abbrev pub tiles : List ℕ → List Tile
-tiles ws = map tileOf ws
 
 abbrev pub upTo : ℕ → ℕ → ℕ → Tile
 upTo z a q = tile (z + 1 - 4 ^ q) q a

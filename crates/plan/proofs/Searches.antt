@@ -16,7 +16,8 @@ use Rattle.quadtree.proofs.ValidLaws.{valid-tiling}
 use Rattle.splicing.proofs.Index.{tiling-placed, tiling-rising, Upto, tiling-cut-at, At, tiling-at}
 use Rattle.bed.specs.Bed.{claimed}
 use Rattle.joining.specs.Standing.{Stands}
-use Rattle.plan.specs.Plan.{Claimable, FirstPast, Covered, Changes}
+use Rattle.search.specs.FirstPast.{FirstPast}
+use Rattle.plan.specs.Plan.{Claimable, Covered, Changes}
 use Rattle.plan.proofs.Cases.{claimable-room, kept-changes, split-changes, cleared-changes, claimed-stands}
 
 -- what a search says of the tiles

@@ -1,15 +1,14 @@
 -- What a claim changes in a valid list, found without a store: the facts that the functions hand on. Definitions only.
 --     Claimable n ts c k a          the checks that come before a claim have passed: ts is valid, the block a quadrant, the account an account
---     FirstPast s from x r          r splits the tiles from `from` on at x: the tile just ahead of r stops by x, that at r past it
 --     Covered s lo c k              the tile at lo is larger than the block and does not start behind its corner
 --     Changes n ts c k a r          the change r makes of ts the linear quadtree after the claim
 --     inner a                       how many tiles a block of the account a has: one, and none for nobody's
 --     Plans n ts c k a r            r is such a change with its two counts
 use mathlib.Core.Path.{_≡_}
 use mathlib.Core.List.{List, _++_}
-use Prim.Native.Nat.{ℕ, zero, suc, _+_, _-_, _^_, _≤_, _<_}
+use Prim.Native.Nat.{ℕ, zero, suc, _+_, _^_, _≤_, _<_}
 use lib.ListN.{length, take, drop, getD}
-use Rattle.tile.specs.Tile.{Tile, stop, tileOf, highestOrder, highestAccount}
+use Rattle.tile.specs.Tile.{Tile, tileOf, highestOrder, highestAccount}
 use Rattle.quadtree.specs.Raster.{Aligned, accountAt}
 use Rattle.quadtree.specs.Quadtree.{blocks, quadtree}
 use Rattle.quadtree.specs.Valid.{Valid}
@@ -25,12 +24,6 @@ pub record Claimable (n : ℕ) (ts : List Tile) (c k a : ℕ) : Type 0 where
   pub inside : c < 4 ^ n
   pub aligned : Aligned k c
   pub account : a ≤ highestAccount
-
-pub record FirstPast (s : List ℕ) (from x r : ℕ) : Type 0 where
-  pub low : from ≤ r
-  pub high : r ≤ length s
-  pub ahead : from < r → stop (tileOf (getD s (r - 1) 0)) ≤ x
-  pub past : r < length s → x < stop (tileOf (getD s r 0))
 
 pub record Covered (s : List ℕ) (lo c k : ℕ) : Type 0 where
   pub some : lo < length s

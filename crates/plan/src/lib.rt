@@ -6,7 +6,8 @@ ghost use lib.ListN.{length};
 ghost use Rattle.basics.specs.Test.{Test};
 ghost use Rattle.tile.specs.Tile.{tileOf, highestOrder};
 ghost use Rattle.tile.specs.Slots.{tilesIn};
-ghost use Rattle.plan.specs.Plan.{Claimable, FirstPast, Covered, Changes, inner, Plans};
+ghost use Rattle.search.specs.FirstPast.{FirstPast};
+ghost use Rattle.plan.specs.Plan.{Claimable, Covered, Changes, inner, Plans};
 
 // The tiles from `lo` up to `hi` give way to those of the block of size `top` at the corner `first`, in which the block of size `size`
 // at `corner` has the claimed account and the rest is the owner's.
@@ -25,24 +26,6 @@ pub struct Planned {
     pub change: Change,
     pub pieces: usize,
     pub tiles: usize,
-}
-
-// The first index from `from` on whose tile stops past x, or the length.
-fn first_past(list: &[u32], from: usize, x: u32) -> usize
-    requires { ⌜ from ≤ length (now list) ⌝ }
-    ensures { λ r. ⌜ FirstPast (now (list .entry)) from x r ⌝ }
-{
-    let mut a = from;
-    let mut b = list.len();
-    while a < b {
-        let mid = a + (b - a) / 2;
-        if tile::stop(list[mid]) <= x {
-            a = mid + 1;
-        } else {
-            b = mid;
-        }
-    }
-    a
 }
 
 // Is the tile at lo larger than the block, and does it not start behind its corner?
@@ -98,11 +81,11 @@ fn find_change(order: u32, list: &[u32], corner: u32, size: u32, account: u8) ->
     requires { ⌜ Claimable order (map tileOf (now list)) corner size account ⌝ }
     ensures { λ r. ⌜ Changes order (map tileOf (now (list .entry))) corner size account r ⌝ }
 {
-    let lo = first_past(list, 0, corner);
+    let lo = search::first_past(list, 0, corner);
     if covered(list, lo, corner, size) {
         return split(order, list, lo, corner, size, account);
     }
-    let hi = first_past(list, lo, corner + tile::area(size));
+    let hi = search::first_past(list, lo, corner + tile::area(size));
     if account == 0 {
         return Change {
             lo,

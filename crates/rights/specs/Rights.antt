@@ -3,22 +3,21 @@
 --     tableRow c             the row of the paper's table for an asking class
 --     pixelKind p q          the column of the table for the asking account p and the pixel's account q
 --     mayPlace p q           the table's answer
---     askerCheck p           34
 --     rightsCheck ..         1, 2, 11 to 16, then 31, then 34
 --     rightsOf ..            the offered call
-use mathlib.Core.Bool.{Bool, true, false, _&&_}
+use mathlib.Core.Bool.{Bool, true, false}
 use mathlib.Core.List.{List, [], _∷_}
 use Prim.Native.Nat.{ℕ}
-use lib.Dec.{leb, ltb, eqb}
+use lib.Dec.{leb, eqb}
 use lib.ListN.{getD}
 use Rattle.basics.specs.Choice.{if}
-use Rattle.refusal.specs.Refusal.{accepted, askerInvalid}
-use Rattle.refusal.specs.Checks.{must, orElse, unless}
+use Rattle.refusal.specs.Refusal.{accepted}
+use Rattle.refusal.specs.Checks.{orElse, unless}
 use Rattle.morton.specs.Morton.{morton}
-use Rattle.tile.specs.Tile.{highestAccount}
 use Rattle.tile.specs.Slots.{tilesIn}
 use Rattle.quadtree.specs.Raster.{accountAt}
-use Rattle.reading.specs.Lookup.{lookupCheck}
+use Rattle.listcheck.specs.ListCheck.{listCheck}
+use Rattle.checks.specs.Asked.{pointCheck, askerCheck}
 use Rattle.rights.specs.declared.Right.{Right}
 
 pub data Class : Type 0 where
@@ -45,11 +44,8 @@ pixelKind p q = if (eqb p q) 0 (if (eqb q 0) 1 (heldBy (classOf q)))
 unfoldable pub mayPlace : ℕ → ℕ → Bool
 mayPlace p q = getD (tableRow (classOf p)) (pixelKind p q) false
 
-unfoldable pub askerCheck : ℕ → ℕ
-askerCheck p = must (ltb 0 p && leb p highestAccount) askerInvalid accepted
-
 unfoldable pub rightsCheck : ℕ → ℕ → List ℕ → ℕ → ℕ → ℕ → ℕ
-rightsCheck n t slots c r p = orElse (lookupCheck n t slots c r) (askerCheck p)
+rightsCheck n t slots c r p = orElse (listCheck n t slots) (orElse (pointCheck n c r) (askerCheck p))
 
 unfoldable pub rightsOf : ℕ → ℕ → List ℕ → ℕ → ℕ → ℕ → Right
 rightsOf n t slots c r p =

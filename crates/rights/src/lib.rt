@@ -1,8 +1,7 @@
 // Placement rights: which account may place at which pixel, by a table of classes and kinds of pixels.
 ghost use mathlib.Core.Path.{_≡_};
 ghost use Prim.Native.Nat.{_<_};
-ghost use Rattle.refusal.specs.Checks.{orElse};
-ghost use Rattle.rights.specs.Rights.{classOf, pixelKind, mayPlace, askerCheck, rightsOf};
+ghost use Rattle.rights.specs.Rights.{classOf, pixelKind, mayPlace, rightsCheck, rightsOf};
 ghost use Rattle.rights.specs.Table.{rowOf};
 
 // The rights call's answer.
@@ -71,40 +70,30 @@ fn may_place(asking: u8, holder: u8) -> bool
     TABLE[class][kind]
 }
 
-// The first refusal of two in a row.
-fn first(earlier: u32, later: u32) -> u32
-    ensures { λ r. ⌜ r ≡ orElse earlier later ⌝ }
+// The checks in their order: those of the list, then 31, then 34.
+fn rights_check(order: u32, tiles: usize, slots: &[u32], column: u32, row: u32, asking: u8) -> u32
+    ensures { λ r. ⌜ r ≡ rightsCheck order tiles (now (slots .entry)) column row asking ⌝ }
 {
-    if earlier != refusal::ACCEPTED {
-        return earlier;
+    let listed = listcheck::check(order, tiles, slots);
+    if listed != refusal::ACCEPTED {
+        return listed;
     }
-    later
-}
-
-// Row 34.
-fn asker_check(asking: u8) -> u32
-    ensures { λ r. ⌜ r ≡ askerCheck asking ⌝ }
-{
-    if asking == 0 {
-        return refusal::ASKER_INVALID;
+    let pointed = checks::point(order, column, row);
+    if pointed != refusal::ACCEPTED {
+        return pointed;
     }
-    if tile::HIGHEST_ACCOUNT < asking {
-        return refusal::ASKER_INVALID;
-    }
-    refusal::ACCEPTED
+    checks::asker(asking)
 }
 
 // The offered call: may the asking account place at the pixel in a column and a row? Refused, the first refusal and no.
 pub fn rights(order: u32, tiles: usize, slots: &[u32], column: u32, row: u32, asking: u8) -> Right
     ensures { λ r. ⌜ r ≡ rightsOf order tiles (now (slots .entry)) column row asking ⌝ }
 {
-    let point = reading::lookup_check(order, tiles, slots, column, row);
-    let asker = asker_check(asking);
-    let number = first(point, asker);
+    let number = rights_check(order, tiles, slots, column, row, asking);
     if number != refusal::ACCEPTED {
         return Right { number, yes: false };
     }
-    let holder = reading::account_at(tiles, slots, morton::number(column, row));
+    let holder = lookup::account_at(tiles, slots, morton::number(column, row));
     let yes = may_place(asking, holder);
     Right {
         number: refusal::ACCEPTED,

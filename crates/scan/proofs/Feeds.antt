@@ -12,7 +12,7 @@ use Rattle.refusal.specs.Refusal.{accepted}
 use Rattle.refusal.specs.Checks.{After}
 use Rattle.refusal.proofs.CheckLaws.{unless-on, unless-off, by-unless}
 use Rattle.tile.specs.Tile.{Tile}
-use Rattle.tile.specs.Slots.{tilesIn, filled}
+use Rattle.tile.specs.Slots.{tiles, tilesIn, filled}
 use Rattle.tile.proofs.SlotsLaws.{words-tiles, filled-length}
 use Rattle.quadtree.specs.Raster.{accountAt}
 use Rattle.quadtree.specs.Quadtree.{quadtree}
@@ -21,14 +21,14 @@ use Rattle.bed.specs.declared.Kind.{Kind}
 use Rattle.bed.specs.declared.Scan.{Scan}
 use Rattle.bed.specs.Bed as bed
 use Rattle.bed.proofs.BedLaws.{Room, feedPixels-room}
-use Rattle.merging.specs.Merging.{tiles}
 use Rattle.gap.specs.Gap.{held}
 use Rattle.gap.proofs.Parts.{held-length}
 use Rattle.feeding.specs.Shown.{shownBed}
 use Rattle.feeding.specs.Feeding.{FedTo}
 use Rattle.feeding.specs.declared.Run.{Run}
 use Rattle.scan.specs.FreshScan.{freshOf}
-use Rattle.scan.specs.Feed.{opening, fedTo, feedOf}
+use Rattle.scan_check.specs.Opening.{opening}
+use Rattle.scan.specs.Feed.{fedTo, feedOf}
 use Rattle.scan.specs.declared.Fresh.{Fresh}
 use Rattle.scan.specs.declared.Fed.{Fed}
 

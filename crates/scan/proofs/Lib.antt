@@ -1,4 +1,2 @@
--- Laws of the opening checks of a feed, of a feed whole and of a fresh scan.
-pub mod Unscanned
-pub mod Opening
+-- Laws of a feed whole and of a fresh scan.
 pub mod Feeds

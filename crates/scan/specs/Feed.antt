@@ -1,35 +1,19 @@
 -- Feed (document 01, "Scanning"), through the plain bed. Definitions only.
---     coversUnscanned c ts    a tile of ts covers a pixel that the record c has not scanned
---     opening c slots         the opening checks: 1, 2, 11 to 16, 21, 22
 --     feedOf c slots bytes    the offered call: refused by its opening checks it changes nothing; past them it answers what the feed of
 --                             the plain bed answers, and leaves the linear quadtree of the bed that this leaves, with the other slots 0
-use mathlib.Core.Bool.{Bool, false, not, _||_}
-use mathlib.Core.List.{List, [], _∷_}
-use Prim.Native.Nat.{ℕ, _^_}
-use lib.Dec.{leb}
+use mathlib.Core.List.{List}
+use Prim.Native.Nat.{ℕ}
 use lib.ListN.{length}
-use Rattle.refusal.specs.Refusal.{accepted, scannedTooLarge, tileUnscanned}
-use Rattle.refusal.specs.Checks.{must, orElse, unless, After}
+use Rattle.refusal.specs.Checks.{unless, After}
 use Rattle.tile.specs.Tile.{Tile}
-use Rattle.tile.specs.Slots.{tilesIn, filled}
+use Rattle.tile.specs.Slots.{filled}
 use Rattle.quadtree.specs.Quadtree.{quadtree}
-use Rattle.listcheck.specs.ListCheck.{listCheck}
 use Rattle.bed.specs.declared.Scan.{Scan}
 use Rattle.bed.specs.Places.{scanOf}
 use Rattle.bed.specs.Bed as bed
+use Rattle.scan_check.specs.Opening.{opening}
 use Rattle.feeding.specs.Shown.{shownBed}
 use Rattle.scan.specs.declared.Fed.{Fed}
-use Rattle.scan.specs.Covering.{unscannedIn}
-
-unfoldable pub coversUnscanned : Scan → List Tile → Bool
-coversUnscanned c [] = false
-coversUnscanned c (t ∷ ts) = unscannedIn (c .kind) (c .order) (c .pixels) t || coversUnscanned c ts
-
-unfoldable pub opening : Scan → List ℕ → ℕ
-opening c slots =
-    orElse (listCheck (c .order) (c .tiles) slots)
-    (must (leb (c .pixels) (4 ^ c .order)) scannedTooLarge
-    (must (not (coversUnscanned c (tilesIn (c .tiles) slots))) tileUnscanned accepted))
 
 -- the answer and the m slots, of what the plain bed gives
 unfoldable pub fedTo : ℕ → bed.Fed → After Fed

@@ -1,4 +1,3 @@
 -- Fresh scans and feeds.
 pub mod FreshScan
-pub mod Covering
 pub mod Feed

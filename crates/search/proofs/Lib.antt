@@ -1,2 +1,3 @@
 -- Laws of the search.
 pub mod CutLaws
+pub mod CountLaws

@@ -1,2 +1,4 @@
--- The place of a Morton number among words.
+-- Searches in a list of words.
+pub mod Count
 pub mod Cut
+pub mod FirstPast

@@ -40,13 +40,13 @@ fn file_of(scan: Scan, slots: &[u32]) {
 
 // "On M column 3 passes, 4 gives 31."
 fn lookups(scan: Scan, slots: &[u32]) {
-    let inside = reading::lookup(scan.order, scan.tiles, slots, 3, 1);
+    let inside = lookup::lookup(scan.order, scan.tiles, slots, 3, 1);
     line(
         b"M, column 3, row 1: number, account",
         inside.number as usize,
         inside.account as usize,
     );
-    let outside = reading::lookup(scan.order, scan.tiles, slots, 4, 1);
+    let outside = lookup::lookup(scan.order, scan.tiles, slots, 4, 1);
     line(
         b"M, column 4, row 1: number, account",
         outside.number as usize,
@@ -65,21 +65,21 @@ fn first(part: &[u32]) -> u32 {
 // "On M, quadrant (4, size 1) is the one tile at position 1; (12, size 0) is empty at position 3."
 // (1, size 1) is no quadrant: 32, and the empty part.
 fn parts(scan: Scan, slots: &[u32]) {
-    let one = reading::quadrant_slice(scan.order, scan.tiles, slots, 4, 1);
+    let one = part::quadrant_slice(scan.order, scan.tiles, slots, 4, 1);
     line(
         b"M, quadrant 4, size 1: tiles, first word",
         one.len(),
         first(one) as usize,
     );
-    let empty = reading::quadrant_slice(scan.order, scan.tiles, slots, 12, 0);
-    let empty_part = reading::quadrant_part(scan.order, scan.tiles, slots, 12, 0);
+    let empty = part::quadrant_slice(scan.order, scan.tiles, slots, 12, 0);
+    let empty_part = part::quadrant_part(scan.order, scan.tiles, slots, 12, 0);
     line(
         b"M, quadrant 12, size 0: tiles, position",
         empty.len(),
         empty_part.position,
     );
-    let refused = reading::quadrant_slice(scan.order, scan.tiles, slots, 1, 1);
-    let refused_part = reading::quadrant_part(scan.order, scan.tiles, slots, 1, 1);
+    let refused = part::quadrant_slice(scan.order, scan.tiles, slots, 1, 1);
+    let refused_part = part::quadrant_part(scan.order, scan.tiles, slots, 1, 1);
     line(
         b"M, quadrant 1, size 1: tiles, number",
         refused.len(),

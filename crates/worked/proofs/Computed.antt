@@ -12,14 +12,17 @@ use Rattle.quadtree.proofs.Blocks.{blocks-uniform}
 use Rattle.listcheck.specs.ListCheck.{follows, lastOfFour, ended, soundCheck, wordCheck, wordsCheck, listCheck}
 use Rattle.bed.specs.Places.{placeOf, pixelAt, scanned, rows}
 use Rattle.bed.specs.Bed.{putPixel, pixelCheck, feedPixels, blockIn, claimCheck}
-use Rattle.reading.specs.Part.{counted, partCheck, partOf, sliceOf}
+use Rattle.checks.specs.Asked.{blockCheck}
+use Rattle.search.specs.Count.{counted}
+use Rattle.part.specs.Part.{partCheck, partOf, sliceOf}
 use Rattle.scan.specs.FreshScan.{freshOf}
-use Rattle.scan.specs.Feed.{coversUnscanned, opening, fedTo, feedOf}
+use Rattle.scan_check.specs.Opening.{coversUnscanned, opening}
+use Rattle.scan.specs.Feed.{fedTo, feedOf}
 use Rattle.claim.specs.Claim.{claimRefusal, claimOf}
 use Rattle.worked.specs.Table.{Starred}
 
 pub starred : Starred
-unfolding if some tabulate must orElse unless morton column row wordOf tileOf tilesIn filled aligned uniform accountAt paint single four blocks quadtree follows lastOfFour ended soundCheck wordCheck wordsCheck listCheck placeOf pixelAt scanned rows putPixel pixelCheck feedPixels blockIn claimCheck counted partCheck partOf sliceOf freshOf coversUnscanned opening fedTo feedOf claimRefusal claimOf
+unfolding if some tabulate must orElse unless morton column row wordOf tileOf tilesIn filled aligned uniform accountAt paint single four blocks quadtree follows lastOfFour ended soundCheck wordCheck wordsCheck listCheck placeOf pixelAt scanned rows putPixel pixelCheck feedPixels blockIn claimCheck blockCheck counted partCheck partOf sliceOf freshOf coversUnscanned opening fedTo feedOf claimRefusal claimOf
 starred = record {
   M-rows = refl;
   M-tiles = refl;

@@ -12,7 +12,7 @@ use Rattle.quadtree.specs.Quadtree.{quadtree}
 use Rattle.listcheck.specs.ListCheck.{listCheck}
 use Rattle.bed.specs.declared.Kind.the-variants.{Rows}
 use Rattle.bed.specs.Places.{rows, scanOf}
-use Rattle.reading.specs.Part.{partOf, sliceOf}
+use Rattle.part.specs.Part.{partOf, sliceOf}
 use Rattle.scan.specs.declared.Fed.{Fed}
 use Rattle.scan.specs.FreshScan.{freshOf}
 use Rattle.scan.specs.Feed.{feedOf}

@@ -1,6 +1,6 @@
 -- Refused, nothing changes; else the plain bed's feed, with the gap closed.
 use Rattle.scan.proofs.Feeds.{feed-refused, feed-done}
-use Rattle.scan.proofs.Opening.{opening-opened}
+use Rattle.scan_check.proofs.Opening.{opening-opened}
 use mathlib.Core.Path.{_∙_, sym}
 use borrow.Author.Needs.{needs}
 use Rattle.scan.proofs.feed.Statement.{statement}

@@ -1,0 +1,2 @@
+-- Laws of the checks of what a call is handed besides its map.
+pub mod AskedLaws

@@ -1,0 +1,2 @@
+-- The checks of what a call is handed besides its map.
+pub mod Asked

@@ -1,0 +1,2 @@
+-- Laws of lookup.
+pub mod LookupLaws

@@ -1,0 +1,2 @@
+-- Lookup.
+pub mod Lookup

@@ -1,0 +1,3 @@
+-- Laws of quadrant part.
+pub mod InsideLaws
+pub mod PartLaws

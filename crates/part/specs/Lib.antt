@@ -1,0 +1,2 @@
+-- Quadrant part.
+pub mod Part

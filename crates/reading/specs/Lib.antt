@@ -1,3 +1,0 @@
--- The calls that search a map.
-pub mod Lookup
-pub mod Part

@@ -1,0 +1,61 @@
+-- The opening checks of a feed in their order.
+--     open-list, open-pixels, open-tiles, open-passed   which check refuses, or that none does
+--     opening-opened                                    what a record and its slots have that pass
+use mathlib.Core.Path.{_≡_, _∙_, refl, sym}
+use mathlib.Core.Bool.{Bool, true, false, not}
+use Prim.Native.Nat.{ℕ, _^_, _≤_, _<_}
+use mathlib.Core.List.{List}
+use native.Mathlib.Omega.{arith}
+use Rattle.basics.proofs.Tests.{Test, holds, fails, test-leb}
+use Rattle.refusal.specs.Refusal.{accepted, scannedTooLarge, tileUnscanned}
+use Rattle.refusal.specs.Checks.{must}
+use Rattle.refusal.proofs.CheckLaws.{must-on, must-off, must-inv, else-on, else-off, else-inv}
+use Rattle.tile.specs.Slots.{tilesIn}
+use Rattle.listcheck.specs.ListCheck.{listCheck}
+use Rattle.listcheck.proofs.Accepts.{listCheck-valid}
+use Rattle.bed.specs.declared.Scan.{Scan}
+use Rattle.scan_check.specs.Opened.{Opened}
+use Rattle.scan_check.specs.Opening.{coversUnscanned, opening}
+use Rattle.scan_check.proofs.Unscanned.{covers-blank}
+
+test-none : (b : Bool) → Test (b ≡ false) (not b)
+test-none true = fails (λ e. let z : _≡_ {A = ℕ} 0 1 = cc in omega arith)
+test-none false = holds refl
+
+module _ (c : Scan) (slots : List ℕ) where
+  abbrev list : ℕ
+  list = listCheck (c .order) (c .tiles) slots
+
+  abbrev covered : Bool
+  covered = coversUnscanned c (tilesIn (c .tiles) slots)
+
+  pub open-list : (r : ℕ) → r ≡ list → (r ≡ accepted → ⊥) → r ≡ opening c slots
+  unfolding opening
+  open-list r e h = e ∙ sym (else-off list _ (λ q. h (e ∙ q)))
+
+  module _ (passed : list ≡ accepted) where
+    pub open-pixels : 4 ^ c .order < c .pixels → scannedTooLarge ≡ opening c slots
+    unfolding opening
+    open-pixels h = sym (else-on list _ passed ∙ must-off _ _ (test-leb (c .pixels) (4 ^ c .order)) (λ q. omega arith))
+
+    module _ (few : c .pixels ≤ 4 ^ c .order) where
+      to-tiles : opening c slots ≡ must (not covered) tileUnscanned accepted
+      unfolding opening
+      to-tiles = else-on list _ passed ∙ must-on _ _ (test-leb (c .pixels) (4 ^ c .order)) few
+
+      pub open-tiles : true ≡ covered → tileUnscanned ≡ opening c slots
+      unfolding must
+      open-tiles e = sym (to-tiles ∙ rw (← e))
+
+      pub open-passed : false ≡ covered → accepted ≡ opening c slots
+      unfolding must
+      open-passed e = sym (to-tiles ∙ rw (← e))
+
+  pub opening-opened : opening c slots ≡ accepted → Opened c slots
+  unfolding opening
+  opening-opened e =
+      let a = else-inv list _ e in
+      let b = must-inv (test-leb (c .pixels) (4 ^ c .order)) (omega arith) (a .1) in
+      let d = must-inv (test-none covered) (omega arith) (b .1) in
+      let v = listCheck-valid (c .order) (c .tiles) slots .0 (a .0) in
+      record { order = v .0; count = v .1; valid = v .2; scanned = b .0; blank = λ z h g. covers-blank c (tilesIn (c .tiles) slots) (d .0) z g }

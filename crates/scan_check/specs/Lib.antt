@@ -1,0 +1,3 @@
+-- The checks that a call on a scan begins with.
+pub mod Opening
+pub mod Opened
