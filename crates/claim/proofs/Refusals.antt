@@ -19,13 +19,13 @@ use Rattle.tile.specs.Tile.{Tile, highestAccount}
 use Rattle.tile.specs.Slots.{tilesIn, filled}
 use Rattle.quadtree.specs.Raster.{accountAt}
 use Rattle.quadtree.specs.Quadtree.{quadtree}
-use Rattle.listcheck.specs.ListCheck.{listCheck}
-use Rattle.listcheck.proofs.Accepts.{listCheck-valid}
+use Rattle.list_check.specs.ListCheck.{listCheck}
+use Rattle.list_check.proofs.Accepts.{listCheck-valid}
 use Rattle.bed.specs.Bed.{blockIn, claimed, claimCheck}
 use Rattle.bed.proofs.BedLaws.{test-blockIn}
 use Rattle.checks.specs.Asked.{blockCheck, givenCheck}
 use Rattle.checks.proofs.AskedLaws.{block-passed}
-use Rattle.plan.specs.Plan.{Claimable}
+use Rattle.claim_plan.specs.Plan.{Claimable}
 use Rattle.claim.specs.declared.Claimed.{Claimed}
 use Rattle.claim.specs.Claim.{claimRefusal, claimOf}
 

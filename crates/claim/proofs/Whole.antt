@@ -20,13 +20,13 @@ use Rattle.tile.proofs.SlotsLaws.{words-tiles, length-tilesIn}
 use Rattle.quadtree.specs.Raster.{accountAt}
 use Rattle.quadtree.specs.Quadtree.{blocks, quadtree}
 use Rattle.quadtree.proofs.Alignment.{area-mono, area-pos}
-use Rattle.splicing.specs.Split.{pieces}
-use Rattle.splicing.proofs.Split.{split-pieces}
+use Rattle.claim_split.specs.Split.{pieces}
+use Rattle.claim_split.proofs.Split.{split-pieces}
 use Rattle.bed.specs.Bed.{claimed}
-use Rattle.plan.specs.declared.Planned.{Planned}
-use Rattle.plan.specs.Plan.{Claimable, Plans, inner}
-use Rattle.plan.proofs.Counts.{changes-pieces, changes-tiles}
-use Rattle.stores.specs.Stores.{Drawn, Opened}
+use Rattle.claim_plan.specs.declared.Planned.{Planned}
+use Rattle.claim_plan.specs.Plan.{Claimable, Plans, inner}
+use Rattle.claim_plan.proofs.Counts.{changes-pieces, changes-tiles}
+use Rattle.claim_store.specs.Stores.{Drawn, Opened}
 use Rattle.claim.specs.declared.Claimed.{Claimed}
 use Rattle.claim.specs.Claim.{claimOf}
 use Rattle.basics.proofs.MapLaws.{take-map, drop-map}

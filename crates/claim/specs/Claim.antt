@@ -10,7 +10,7 @@ use Rattle.tile.specs.Tile.{Tile}
 use Rattle.tile.specs.Slots.{tilesIn, filled}
 use Rattle.quadtree.specs.Raster.{accountAt}
 use Rattle.quadtree.specs.Quadtree.{quadtree}
-use Rattle.listcheck.specs.ListCheck.{listCheck}
+use Rattle.list_check.specs.ListCheck.{listCheck}
 use Rattle.bed.specs.Bed.{claimed, claimCheck}
 use Rattle.claim.specs.declared.Claimed.{Claimed}
 

@@ -4,7 +4,7 @@ ghost use Prim.Native.Nat.{_≤_};
 ghost use lib.ListN.{length};
 ghost use Rattle.refusal.specs.Checks.{After};
 ghost use Rattle.tile.specs.Slots.{tilesIn};
-ghost use Rattle.plan.specs.Plan.{Claimable};
+ghost use Rattle.claim_plan.specs.Plan.{Claimable};
 ghost use Rattle.claim.specs.Claim.{claimOf};
 
 // A claim's answer: the tile count of the list that it leaves.
@@ -26,7 +26,7 @@ fn claim_block(
     requires { ⌜ (tiles ≤ length (now slots)) × Claimable order (tilesIn tiles (now slots)) corner size account ⌝ }
     ensures { λ r. ⌜ _≡_ {A = After Claimed} (record { answer = r; storage = now (slots .exit) }) (claimOf order tiles (now (slots .entry)) corner size account) ⌝ }
 {
-    let planned = plan::plan(order, tiles, slots, corner, size, account);
+    let planned = claim_plan::plan(order, tiles, slots, corner, size, account);
     if slots.len() < planned.tiles {
         return Claimed {
             number: refusal::SLOTS_EXCEEDED,
@@ -34,9 +34,9 @@ fn claim_block(
         };
     }
     let change = planned.change;
-    stores::make_room(slots, change.lo, change.hi, tiles, planned.pieces);
-    stores::write_pieces(slots, change, planned.pieces, account);
-    moves::clear_from(slots, planned.tiles);
+    claim_store::make_room(slots, change.lo, change.hi, tiles, planned.pieces);
+    claim_store::write_pieces(slots, change, planned.pieces, account);
+    list_words::clear_from(slots, planned.tiles);
     Claimed {
         number: refusal::ACCEPTED,
         tiles: planned.tiles,
@@ -55,7 +55,7 @@ pub fn claim(
 ) -> Claimed
     ensures { λ r. ⌜ _≡_ {A = After Claimed} (record { answer = r; storage = now (slots .exit) }) (claimOf order tiles (now (slots .entry)) corner size account) ⌝ }
 {
-    let listed = listcheck::check(order, tiles, slots);
+    let listed = list_check::check(order, tiles, slots);
     if listed != refusal::ACCEPTED {
         return Claimed {
             number: listed,

@@ -13,7 +13,7 @@ use Rattle.refusal.specs.Checks.{After}
 use Rattle.refusal.proofs.CheckLaws.{must-on, must-off, else-on, else-off, unless-on, unless-off}
 use Rattle.tile.specs.Slots.{tilesIn}
 use Rattle.quadtree.specs.Raster.{accountAt}
-use Rattle.listcheck.specs.ListCheck.{listCheck}
+use Rattle.list_check.specs.ListCheck.{listCheck}
 use Rattle.bed.specs.Places.{rows}
 use Rattle.decode.specs.Decode.{decodeCheck, decodeOf}
 

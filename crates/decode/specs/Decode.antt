@@ -9,7 +9,7 @@ use Rattle.refusal.specs.Refusal.{accepted, rasterLength}
 use Rattle.refusal.specs.Checks.{must, orElse, unless, After}
 use Rattle.tile.specs.Slots.{tilesIn}
 use Rattle.quadtree.specs.Raster.{accountAt}
-use Rattle.listcheck.specs.ListCheck.{listCheck}
+use Rattle.list_check.specs.ListCheck.{listCheck}
 use Rattle.bed.specs.Places.{rows}
 
 unfoldable pub decodeCheck : ℕ → ℕ → List ℕ → List ℕ → ℕ

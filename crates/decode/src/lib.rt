@@ -82,7 +82,7 @@ fn fill(order: u32, tiles: usize, slots: &[u32], raster: &mut [u8])
 pub fn decode(order: u32, tiles: usize, slots: &[u32], raster: &mut [u8]) -> u32
     ensures { λ r. ⌜ _≡_ {A = After ℕ} (record { answer = r; storage = now (raster .exit) }) (decodeOf order tiles (now (slots .entry)) (now (raster .entry))) ⌝ }
 {
-    let refusal = listcheck::check(order, tiles, slots);
+    let refusal = list_check::check(order, tiles, slots);
     if refusal != refusal::ACCEPTED {
         return refusal;
     }

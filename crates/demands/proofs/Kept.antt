@@ -25,8 +25,8 @@ use Rattle.quadtree.proofs.Alignment.{area-pos}
 use Rattle.quadtree.proofs.ValidLaws.{quadtree-valid, quadtree-shown}
 use Rattle.quadtree.proofs.Linear.{quadtree-largest, quadtree-linear}
 use Rattle.quadtree.proofs.Least.{shows-least}
-use Rattle.listcheck.specs.ListCheck.{listCheck}
-use Rattle.listcheck.proofs.Accepts.{listCheck-filled}
+use Rattle.list_check.specs.ListCheck.{listCheck}
+use Rattle.list_check.proofs.Accepts.{listCheck-filled}
 use Rattle.bed.specs.Places.{scanOf}
 use Rattle.bed.specs.Bed.{Bed}
 use Rattle.bed.proofs.PlaceLaws.{rows-cong}

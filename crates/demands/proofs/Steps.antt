@@ -36,8 +36,8 @@ use Rattle.scan.specs.FreshScan.{freshOf}
 use Rattle.scan_check.specs.Opening.{opening}
 use Rattle.scan.specs.Feed.{fedTo, feedOf}
 use Rattle.claim.specs.Claim.{claimRefusal, claimOf}
-use Rattle.reader.specs.Reader.{fileCheck, fileOrder, fileCount, fileWords, readOf, readBed}
-use Rattle.reader.proofs.ReaderLaws.{Accepted, readOf-valid}
+use Rattle.mapfile_read.specs.Reader.{fileCheck, fileOrder, fileCount, fileWords, readOf, readBed}
+use Rattle.mapfile_read.proofs.ReaderLaws.{Accepted, readOf-valid}
 use Rattle.demands.specs.Calls.{Call, fresh, feed, claim, read, answer, State, Step, PlainStep, step, plainStep, plainFed, afterFresh, afterFeed, afterClaim, afterRead, Begins}
 use Rattle.demands.specs.Demands.{listIn}
 use Rattle.demands.proofs.Kept.{keptBy, Kept, kept-list, kept-length, kept-check, kept-shown}

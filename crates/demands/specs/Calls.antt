@@ -26,8 +26,8 @@ use Rattle.scan.specs.FreshScan.{freshOf}
 use Rattle.scan.specs.Feed.{feedOf}
 use Rattle.claim.specs.declared.Claimed.{Claimed}
 use Rattle.claim.specs.Claim.{claimOf}
-use Rattle.reader.specs.declared.Reading.{Reading}
-use Rattle.reader.specs.Reader.{readOf, readBed, fileCheck}
+use Rattle.mapfile_read.specs.declared.Reading.{Reading}
+use Rattle.mapfile_read.specs.Reader.{readOf, readBed, fileCheck}
 
 pub data Call : Type 0 where
   fresh : Kind → ℕ → Call

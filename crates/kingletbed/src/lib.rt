@@ -4,7 +4,7 @@ ghost use mathlib.Core.Path.{_≡_};
 ghost use Prim.Native.Nat.{ℕ};
 ghost use Rattle.refusal.specs.Checks.{After};
 ghost use Rattle.bed.specs.Places.{scanOf};
-ghost use Rattle.listcheck.specs.ListCheck.{listCheck};
+ghost use Rattle.list_check.specs.ListCheck.{listCheck};
 ghost use Rattle.scan.specs.FreshScan.{freshOf};
 ghost use Rattle.scan.specs.Feed.{feedOf};
 ghost use Rattle.decode.specs.Decode.{decodeOf};
@@ -13,19 +13,19 @@ ghost use Rattle.part.specs.Part.{partOf};
 ghost use Rattle.rights.specs.Rights.{rightsOf};
 ghost use Rattle.claim.specs.declared.Claimed.{Claimed};
 ghost use Rattle.claim.specs.Claim.{claimOf};
-ghost use Rattle.writer.specs.declared.Written.{Written};
-ghost use Rattle.writer.specs.Writer.{writeOf};
-ghost use Rattle.reader.specs.declared.Reading.{Reading};
-ghost use Rattle.reader.specs.Reader.{readOf};
+ghost use Rattle.mapfile_write.specs.declared.Written.{Written};
+ghost use Rattle.mapfile_write.specs.Writer.{writeOf};
+ghost use Rattle.mapfile_read.specs.declared.Reading.{Reading};
+ghost use Rattle.mapfile_read.specs.Reader.{readOf};
 ghost use Rattle.kingletbed.specs.Exports.{kindOf, kindNumber, freshNumbers, fedNumbers};
 use bed::Kind;
 use bed::Scan;
 use claim::Claimed;
 use lookup::Found;
+use mapfile_read::Reading;
+use mapfile_write::Written;
 use part::Part;
-use reader::Reading;
 use rights::Right;
-use writer::Written;
 
 // A fresh scan's answer, with the record's four numbers.
 #[repr(C)]
@@ -70,7 +70,7 @@ fn kind_number(kind: Kind) -> u32
 pub extern "C" fn kb_check(order: u32, tiles: usize, slots: &[u32]) -> u32
     ensures { λ r. ⌜ r ≡ listCheck order tiles (now (slots .entry)) ⌝ }
 {
-    listcheck::check(order, tiles, slots)
+    list_check::check(order, tiles, slots)
 }
 
 #[no_mangle]
@@ -173,12 +173,12 @@ pub extern "C" fn kb_claim(
 pub extern "C" fn kb_write(order: u32, tiles: usize, slots: &[u32], file: &mut [u8]) -> Written
     ensures { λ r. ⌜ _≡_ {A = After Written} (record { answer = r; storage = now (file .exit) }) (writeOf order tiles (now (slots .entry)) (now (file .entry))) ⌝ }
 {
-    writer::write(order, tiles, slots, file)
+    mapfile_write::write(order, tiles, slots, file)
 }
 
 #[no_mangle]
 pub extern "C" fn kb_read(file: &[u8], slots: &mut [u32]) -> Reading
     ensures { λ r. ⌜ _≡_ {A = After Reading} (record { answer = r; storage = now (slots .exit) }) (readOf (now (file .entry)) (now (slots .entry))) ⌝ }
 {
-    reader::read(file, slots)
+    mapfile_read::read(file, slots)
 }

@@ -27,7 +27,7 @@ use Rattle.bed.specs.Places.{scanOf}
 use Rattle.bed.specs.Bed as bed
 use Rattle.bed.specs.Bed.{Bed, bedOf, putPixel, pixelCheck, feedPixels}
 use Rattle.bed.proofs.BedLaws.{Good, pixelCheck-passed, FedAlike, feedPixels-alike}
-use Rattle.feeding.specs.Shown.{shownBed}
+use Rattle.scan_feed.specs.Shown.{shownBed}
 use Rattle.scan.specs.declared.Fed.{Fed}
 use Rattle.scan.specs.FreshScan.{freshOf}
 use Rattle.scan_check.specs.Opening.{opening}

@@ -26,13 +26,13 @@ use Rattle.quadtree.specs.Raster.{accountAt}
 use Rattle.quadtree.specs.Valid.{Chain, end, link, Valid}
 use Rattle.quadtree.proofs.Shown.{accountAt-first, accountAt-rest}
 use Rattle.quadtree.proofs.Chains.{chain-rising, chain-before}
-use Rattle.listcheck.specs.ListCheck.{listCheck}
-use Rattle.listcheck.proofs.Accepts.{listCheck-valid}
+use Rattle.list_check.specs.ListCheck.{listCheck}
+use Rattle.list_check.proofs.Accepts.{listCheck-valid}
 use Rattle.checks.specs.Asked.{pointCheck}
 use Rattle.checks.proofs.AskedLaws.{point-passed}
-use Rattle.search.specs.Count.{isAhead, counted}
+use Rattle.list_search.specs.Count.{isAhead, counted}
 use Rattle.lookup.specs.Lookup.{lookupCheck, lookupOf}
-use Rattle.search.proofs.CountLaws.{test-ahead, counted-yes, counted-le, ahead-none}
+use Rattle.list_search.proofs.CountLaws.{test-ahead, counted-yes, counted-le, ahead-none}
 use Rattle.tile.proofs.SlotTiles.{tilesIn-at}
 
 unfoldable pub shownBy : List Tile → ℕ → ℕ → ℕ

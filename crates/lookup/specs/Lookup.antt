@@ -8,7 +8,7 @@ use Rattle.refusal.specs.Checks.{orElse, unless}
 use Rattle.morton.specs.Morton.{morton}
 use Rattle.tile.specs.Slots.{tilesIn}
 use Rattle.quadtree.specs.Raster.{accountAt}
-use Rattle.listcheck.specs.ListCheck.{listCheck}
+use Rattle.list_check.specs.ListCheck.{listCheck}
 use Rattle.checks.specs.Asked.{pointCheck}
 use Rattle.lookup.specs.declared.Found.{Found}
 

@@ -19,7 +19,7 @@ pub struct Found {
 fn lookup_check(order: u32, tiles: usize, slots: &[u32], column: u32, row: u32) -> u32
     ensures { λ r. ⌜ r ≡ lookupCheck order tiles (now (slots .entry)) column row ⌝ }
 {
-    let listed = listcheck::check(order, tiles, slots);
+    let listed = list_check::check(order, tiles, slots);
     if listed != refusal::ACCEPTED {
         return listed;
     }
@@ -31,7 +31,7 @@ pub fn account_at(tiles: usize, slots: &[u32], z: u32) -> u8
     requires { ⌜ (z < 4 ^ highestOrder) × (tiles ≤ length (now slots)) × ((n : ℕ) × Valid n (tilesIn tiles (now slots))) ⌝ }
     ensures { λ r. ⌜ r ≡ accountAt (tilesIn tiles (now (slots .entry))) z ⌝ }
 {
-    let started = search::ahead(slots, tiles, z + 1);
+    let started = list_search::ahead(slots, tiles, z + 1);
     if started == 0 {
         return 0;
     }

@@ -29,12 +29,12 @@ use Rattle.quadtree.specs.Valid.{Valid}
 use Rattle.quadtree.proofs.Alignment.{area-pos, area-mono, aligned-down, aligned-gap, aligned-nest}
 use Rattle.quadtree.proofs.Chains.{rising-from, chain-rising, chain-apart}
 use Rattle.quadtree.proofs.ValidLaws.{valid-quadrant}
-use Rattle.listcheck.proofs.Accepts.{listCheck-valid}
+use Rattle.list_check.proofs.Accepts.{listCheck-valid}
 use Rattle.checks.proofs.AskedLaws.{block-passed}
 use Rattle.part.specs.declared.Part.{Part}
-use Rattle.search.specs.Count.{isAhead, counted}
+use Rattle.list_search.specs.Count.{isAhead, counted}
 use Rattle.part.specs.Part.{isInside, partCheck, partOf, sliceOf, wordsIn}
-use Rattle.search.proofs.CountLaws.{test-ahead, counted-yes, counted-le, counted-none, ahead-none, slot-past, slot-upto}
+use Rattle.list_search.proofs.CountLaws.{test-ahead, counted-yes, counted-le, counted-none, ahead-none, slot-past, slot-upto}
 use Rattle.tile.proofs.SlotTiles.{tilesIn-at, getD-in}
 
 pub test-inside : (c k : ℕ) (u : Tile) → Test ((c ≤ u .corner) × (stop u ≤ c + 4 ^ k)) (isInside c k u)

@@ -22,9 +22,9 @@ use Rattle.quadtree.specs.Raster.{_∈_}
 use Rattle.quadtree.specs.Valid.{Chain, end, link}
 use Rattle.quadtree.proofs.Alignment.{area-pos, area-mono}
 use Rattle.quadtree.proofs.Chains.{rising-from, chain-from, chain-rising, chain-apart}
-use Rattle.search.specs.Count.{isAhead, counted}
+use Rattle.list_search.specs.Count.{isAhead, counted}
 use Rattle.part.specs.Part.{isInside, partCheck, partOf, sliceOf}
-use Rattle.search.proofs.CountLaws.{test-ahead, counted-yes, counted-no, counted-none, ahead-none}
+use Rattle.list_search.proofs.CountLaws.{test-ahead, counted-yes, counted-no, counted-none, ahead-none}
 use Rattle.tile.proofs.SlotTiles.{tilesIn-part, tilesIn-front}
 use Rattle.part.proofs.InsideLaws.{test-inside, Block, partCheck-passed, partOf-accepted, inside-le, first-at, to-le}
 

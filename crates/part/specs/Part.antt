@@ -15,9 +15,9 @@ use Rattle.refusal.specs.Refusal.{accepted}
 use Rattle.refusal.specs.Checks.{orElse, unless}
 use Rattle.tile.specs.Tile.{Tile, stop}
 use Rattle.tile.specs.Slots.{tilesIn}
-use Rattle.listcheck.specs.ListCheck.{listCheck}
+use Rattle.list_check.specs.ListCheck.{listCheck}
 use Rattle.checks.specs.Asked.{blockCheck}
-use Rattle.search.specs.Count.{isAhead, counted}
+use Rattle.list_search.specs.Count.{isAhead, counted}
 use Rattle.part.specs.declared.Part.{Part}
 
 abbrev pub isInside : ℕ → ℕ → Tile → Bool

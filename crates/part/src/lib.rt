@@ -3,7 +3,7 @@ ghost use mathlib.Core.Path.{_≡_};
 ghost use Prim.Native.Nat.{ℕ};
 ghost use Rattle.refusal.specs.Refusal.{accepted};
 ghost use Rattle.tile.specs.Slots.{tilesIn};
-ghost use Rattle.search.specs.Count.{isAhead, counted};
+ghost use Rattle.list_search.specs.Count.{isAhead, counted};
 ghost use Rattle.part.specs.Part.{isInside, partCheck, partOf, sliceOf, wordsIn};
 
 // The answer of quadrant part's companion.
@@ -18,7 +18,7 @@ pub struct Part {
 fn part_check(order: u32, tiles: usize, slots: &[u32], corner: u32, size: u32) -> u32
     ensures { λ r. ⌜ r ≡ partCheck order tiles (now (slots .entry)) corner size ⌝ }
 {
-    let listed = listcheck::check(order, tiles, slots);
+    let listed = list_check::check(order, tiles, slots);
     if listed != refusal::ACCEPTED {
         return listed;
     }
@@ -30,8 +30,8 @@ fn inside(tiles: usize, slots: &[u32], corner: u32, size: u32) -> Part
     requires { ⌜ ((n : ℕ) × (partCheck n tiles (now slots) corner size ≡ accepted)) ⌝ }
     ensures { λ r. ⌜ r ≡ record { number = accepted; position = counted (isAhead corner) (tilesIn tiles (now (slots .entry))); length = counted (isInside corner size) (tilesIn tiles (now (slots .entry))) } ⌝ }
 {
-    let position = search::ahead(slots, tiles, corner);
-    let end = search::ahead(slots, tiles, corner + tile::area(size));
+    let position = list_search::ahead(slots, tiles, corner);
+    let end = list_search::ahead(slots, tiles, corner + tile::area(size));
     if end <= position {
         return Part {
             number: refusal::ACCEPTED,

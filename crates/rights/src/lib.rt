@@ -74,7 +74,7 @@ fn may_place(asking: u8, holder: u8) -> bool
 fn rights_check(order: u32, tiles: usize, slots: &[u32], column: u32, row: u32, asking: u8) -> u32
     ensures { λ r. ⌜ r ≡ rightsCheck order tiles (now (slots .entry)) column row asking ⌝ }
 {
-    let listed = listcheck::check(order, tiles, slots);
+    let listed = list_check::check(order, tiles, slots);
     if listed != refusal::ACCEPTED {
         return listed;
     }

@@ -21,11 +21,11 @@ use Rattle.bed.specs.declared.Kind.{Kind}
 use Rattle.bed.specs.declared.Scan.{Scan}
 use Rattle.bed.specs.Bed as bed
 use Rattle.bed.proofs.BedLaws.{Room, feedPixels-room}
-use Rattle.gap.specs.Gap.{held}
-use Rattle.gap.proofs.Parts.{held-length}
-use Rattle.feeding.specs.Shown.{shownBed}
-use Rattle.feeding.specs.Feeding.{FedTo}
-use Rattle.feeding.specs.declared.Run.{Run}
+use Rattle.scan_gap.specs.Gap.{held}
+use Rattle.scan_gap.proofs.Parts.{held-length}
+use Rattle.scan_feed.specs.Shown.{shownBed}
+use Rattle.scan_feed.specs.Feeding.{FedTo}
+use Rattle.scan_feed.specs.declared.Run.{Run}
 use Rattle.scan.specs.FreshScan.{freshOf}
 use Rattle.scan_check.specs.Opening.{opening}
 use Rattle.scan.specs.Feed.{fedTo, feedOf}

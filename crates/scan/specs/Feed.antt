@@ -12,7 +12,7 @@ use Rattle.bed.specs.declared.Scan.{Scan}
 use Rattle.bed.specs.Places.{scanOf}
 use Rattle.bed.specs.Bed as bed
 use Rattle.scan_check.specs.Opening.{opening}
-use Rattle.feeding.specs.Shown.{shownBed}
+use Rattle.scan_feed.specs.Shown.{shownBed}
 use Rattle.scan.specs.declared.Fed.{Fed}
 
 -- the answer and the m slots, of what the plain bed gives

@@ -27,7 +27,7 @@ pub fn fresh_scan(kind: bed::Kind, order: u32, slots: &mut [u32]) -> Fresh
             scan: bed::Scan::fresh(kind, 0),
         };
     }
-    moves::clear(slots);
+    list_words::clear(slots);
     Fresh {
         number: refusal::ACCEPTED,
         scan: bed::Scan::fresh(kind, order),
@@ -47,10 +47,10 @@ pub fn feed(scan: bed::Scan, slots: &mut [u32], accounts: &[u8]) -> Fed
             scan,
         };
     }
-    let run = feeding::feed_all(scan, slots, accounts);
+    let run = scan_feed::feed_all(scan, slots, accounts);
     let front = run.front;
     let back = run.back;
-    gap::close(slots, front, back);
+    scan_gap::close(slots, front, back);
     let kind = scan.kind;
     Fed {
         number: run.number,

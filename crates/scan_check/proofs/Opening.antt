@@ -11,8 +11,8 @@ use Rattle.refusal.specs.Refusal.{accepted, scannedTooLarge, tileUnscanned}
 use Rattle.refusal.specs.Checks.{must}
 use Rattle.refusal.proofs.CheckLaws.{must-on, must-off, must-inv, else-on, else-off, else-inv}
 use Rattle.tile.specs.Slots.{tilesIn}
-use Rattle.listcheck.specs.ListCheck.{listCheck}
-use Rattle.listcheck.proofs.Accepts.{listCheck-valid}
+use Rattle.list_check.specs.ListCheck.{listCheck}
+use Rattle.list_check.proofs.Accepts.{listCheck-valid}
 use Rattle.bed.specs.declared.Scan.{Scan}
 use Rattle.scan_check.specs.Opened.{Opened}
 use Rattle.scan_check.specs.Opening.{coversUnscanned, opening}

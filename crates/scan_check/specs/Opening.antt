@@ -12,7 +12,7 @@ use Rattle.refusal.specs.Refusal.{accepted, scannedTooLarge, tileUnscanned}
 use Rattle.refusal.specs.Checks.{must, orElse}
 use Rattle.tile.specs.Tile.{Tile}
 use Rattle.tile.specs.Slots.{tilesIn}
-use Rattle.listcheck.specs.ListCheck.{listCheck}
+use Rattle.list_check.specs.ListCheck.{listCheck}
 use Rattle.bed.specs.declared.Kind.{Kind}
 use Rattle.bed.specs.declared.Scan.{Scan}
 use Rattle.bed.specs.Places.{scanned}

@@ -53,7 +53,7 @@ pub fn open_check(scan: bed::Scan, slots: &[u32]) -> u32
     ensures { λ r. ⌜ r ≡ opening scan (now (slots .entry)) ⌝ }
 {
     let order = scan.order;
-    let number = listcheck::check(order, scan.tiles, slots);
+    let number = list_check::check(order, scan.tiles, slots);
     if number != refusal::ACCEPTED {
         return number;
     }

@@ -20,7 +20,7 @@ fn wide(x: u8) -> usize {
 // "M's file has 32 bytes; roster totals 4 for account 5 and 6 for account 9." All four bytes of a total, high byte first.
 fn file_of(scan: Scan, slots: &[u32]) {
     let mut file = [0u8; 64];
-    let written = writer::write(scan.order, scan.tiles, slots, &mut file);
+    let written = mapfile_write::write(scan.order, scan.tiles, slots, &mut file);
     line(
         b"M's file: number, bytes",
         written.number as usize,
@@ -29,12 +29,12 @@ fn file_of(scan: Scan, slots: &[u32]) {
     line(
         b"its roster: account, pixels",
         wide(file[22]),
-        items::word_at(&file, 23) as usize,
+        mapfile_bytes::word_at(&file, 23) as usize,
     );
     line(
         b"its roster: account, pixels",
         wide(file[27]),
-        items::word_at(&file, 28) as usize,
+        mapfile_bytes::word_at(&file, 28) as usize,
     );
 }
 

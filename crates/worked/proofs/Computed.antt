@@ -9,11 +9,11 @@ use Rattle.tile.specs.Slots.{tilesIn, filled}
 use Rattle.quadtree.specs.Raster.{aligned, uniform, accountAt, paint}
 use Rattle.quadtree.specs.Quadtree.{single, four, blocks, quadtree}
 use Rattle.quadtree.proofs.Blocks.{blocks-uniform}
-use Rattle.listcheck.specs.ListCheck.{follows, lastOfFour, ended, soundCheck, wordCheck, wordsCheck, listCheck}
+use Rattle.list_check.specs.ListCheck.{follows, lastOfFour, ended, soundCheck, wordCheck, wordsCheck, listCheck}
 use Rattle.bed.specs.Places.{placeOf, pixelAt, scanned, rows}
 use Rattle.bed.specs.Bed.{putPixel, pixelCheck, feedPixels, blockIn, claimCheck}
 use Rattle.checks.specs.Asked.{blockCheck}
-use Rattle.search.specs.Count.{counted}
+use Rattle.list_search.specs.Count.{counted}
 use Rattle.part.specs.Part.{partCheck, partOf, sliceOf}
 use Rattle.scan.specs.FreshScan.{freshOf}
 use Rattle.scan_check.specs.Opening.{coversUnscanned, opening}

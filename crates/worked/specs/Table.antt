@@ -9,7 +9,7 @@ use Rattle.refusal.specs.Checks.{After}
 use Rattle.tile.specs.Tile.{Tile, tile, wordOf}
 use Rattle.tile.specs.Slots.{tilesIn, filled}
 use Rattle.quadtree.specs.Quadtree.{quadtree}
-use Rattle.listcheck.specs.ListCheck.{listCheck}
+use Rattle.list_check.specs.ListCheck.{listCheck}
 use Rattle.bed.specs.declared.Kind.the-variants.{Rows}
 use Rattle.bed.specs.Places.{rows, scanOf}
 use Rattle.part.specs.Part.{partOf, sliceOf}

@@ -1,7 +1,7 @@
 -- The checks in their order, then the claim.
 use mathlib.Core.Path.{_∙_, sym}
 use borrow.Author.Needs.{needs}
-use Rattle.listcheck.proofs.Accepts.{listCheck-order}
+use Rattle.list_check.proofs.Accepts.{listCheck-order}
 use Rattle.claim.proofs.Refusals.{claimOf-refused, refusal-listed, refusal-block, refusal-given, checked-claimable}
 use Rattle.claim.proofs.claim.Statement.{statement}
 use Rattle.claim.proofs.claim.Tie as tie

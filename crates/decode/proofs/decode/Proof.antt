@@ -1,7 +1,7 @@
 -- The checks in turn, and then the fill.
 use mathlib.Core.Path.{sym, _∙_}
 use native.Mathlib.Omega.{arith}
-use Rattle.listcheck.proofs.Accepts.{listCheck-valid}
+use Rattle.list_check.proofs.Accepts.{listCheck-valid}
 use Rattle.decode.proofs.DecodeLaws.{decodeOf-refused, decodeOf-length, decodeOf-filled}
 use borrow.Author.Needs.{needs}
 use Rattle.decode.proofs.decode.Statement.{statement}

@@ -2,7 +2,7 @@
 use mathlib.Core.Path.{_∙_, sym}
 use borrow.Author.Needs.{needs}
 use Rattle.refusal.proofs.CheckLaws.{else-on, else-off}
-use Rattle.listcheck.proofs.Accepts.{listCheck-order}
+use Rattle.list_check.proofs.Accepts.{listCheck-order}
 use Rattle.lookup.specs.Lookup.{lookupCheck}
 use Rattle.lookup.proofs.lookup_check.Statement.{statement}
 use Rattle.lookup.proofs.lookup_check.Tie as tie

@@ -6,7 +6,7 @@ use Rattle.tile.specs.Slots.{tilesIn}
 use Rattle.quadtree.proofs.Alignment.{area-mono}
 use Rattle.quadtree.proofs.Linear.{valid-linear}
 use Rattle.part.specs.declared.Part.{Part}
-use Rattle.search.specs.Count.{isAhead, counted}
+use Rattle.list_search.specs.Count.{isAhead, counted}
 use Rattle.part.proofs.InsideLaws.{partCheck-passed, to-le, inside-none, inside-large, inside-rest}
 use mathlib.Core.Path.{_≡_, _∙_, ap}
 use Prim.Native.Nat.{ℕ, _+_, _≤_}

@@ -2,7 +2,7 @@
 use mathlib.Core.Path.{_∙_, sym}
 use borrow.Author.Needs.{needs}
 use Rattle.refusal.proofs.CheckLaws.{else-on, else-off}
-use Rattle.listcheck.proofs.Accepts.{listCheck-order}
+use Rattle.list_check.proofs.Accepts.{listCheck-order}
 use Rattle.part.specs.Part.{partCheck}
 use Rattle.part.proofs.part_check.Statement.{statement}
 use Rattle.part.proofs.part_check.Tie as tie

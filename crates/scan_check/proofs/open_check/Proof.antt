@@ -1,6 +1,6 @@
 -- List checking, then 21 and 22.
 use Rattle.scan_check.proofs.Opening.{open-list, open-pixels, open-tiles, open-passed}
-use Rattle.listcheck.proofs.Accepts.{listCheck-valid}
+use Rattle.list_check.proofs.Accepts.{listCheck-valid}
 use mathlib.Core.Path.{_∙_, sym}
 use native.Mathlib.Omega.{arith}
 use borrow.Author.Needs.{needs}

@@ -1,0 +1,46 @@
+-- The pass over a list of words, turn by turn.
+--     Going n ws i a   `a` tells of the tiles of the first i words, all of which passed, and the words from i on decide
+--     going-start      it begins at the first word
+--     going-on         a word that passes takes it on
+--     going-stop       a word that does not decides
+--     going-end        at the end of the words nothing is left to refuse
+use mathlib.Core.Path.{_≡_, refl, sym, _∙_}
+use mathlib.Core.List.{List, [], _∷_}
+use Prim.Native.Nat.{ℕ, _+_, _<_}
+use native.Mathlib.Numerals.{add-one}
+use lib.ListN.{length, drop, getD}
+use lib.Seq.{drop-cons, drop-length}
+use Rattle.refusal.specs.Refusal.{accepted}
+use Rattle.refusal.specs.Checks.{orElse}
+use Rattle.refusal.proofs.CheckLaws.{else-on, else-off}
+use Rattle.tile.specs.Tile.{Tile, tileOf}
+use Rattle.list_check.specs.declared.Ahead.{Ahead}
+use Rattle.list_check.specs.declared.Judged.{Judged}
+use Rattle.list_check.specs.ListCheck.{wordCheck, wordsCheck}
+use Rattle.list_check.specs.Pass.{Knows, Stepped}
+use Rattle.list_check.proofs.OneWord.{wordCheck-rest}
+
+pub record Going (n : ℕ) (ws : List ℕ) (i : ℕ) (a : Ahead) : Type 0 where
+  pub seen : List Tile
+  pub knows : Knows a seen
+  pub rest : wordsCheck n [] ws ≡ wordsCheck n seen (drop i ws)
+
+module _ (n : ℕ) (ws : List ℕ) where
+  pub going-start : {a : Ahead} → Knows a [] → Going n ws 0 a
+  going-start k = record { seen = []; knows = k; rest = refl }
+
+  pub going-end : (i : ℕ) {a : Ahead} → i ≡ length ws → Going n ws i a → accepted ≡ wordsCheck n [] ws
+  unfolding wordsCheck
+  going-end i h g = let d : drop i ws ≡ [] = rw h (drop-length ws) in sym (g .rest ∙ rw d)
+
+  -- the word w at i
+  module _ (i : ℕ) {a : Ahead} (h : i < length ws) (g : Going n ws i a) (w : ℕ) (ew : getD ws i 0 ≡ w) {r : Judged} (s : Stepped n (g .seen) w r) where
+    turn : wordsCheck n [] ws ≡ orElse (wordCheck n (g .seen) w accepted) (wordsCheck n (tileOf w ∷ g .seen) (drop (i + 1) ws))
+    unfolding wordsCheck
+    turn = g .rest ∙ rw (drop-cons ws i 0 h, ew, add-one i) (wordCheck-rest n (g .seen) w _)
+
+    pub going-on : r .refusal ≡ accepted → Going n ws (i + 1) (r .ahead)
+    going-on z = record { seen = tileOf w ∷ g .seen; knows = s .ahead z; rest = turn ∙ else-on _ _ (sym (s .refusal) ∙ z) }
+
+    pub going-stop : (r .refusal ≡ accepted → ⊥) → r .refusal ≡ wordsCheck n [] ws
+    going-stop z = s .refusal ∙ sym (turn ∙ else-off _ _ (λ y. z (s .refusal ∙ y)))

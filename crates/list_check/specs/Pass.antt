@@ -1,0 +1,37 @@
+-- What one pass over a list keeps of the tiles that it has seen, which the contracts of its steps cite. Definitions only.
+--     joins a t            t is the next sibling of the row that `a` tells of
+--     nextRow a t          how many siblings in a row end with t, from the first of the four on; 0 where the row lacks its first
+--     aheadOf seen         what the pass keeps of the tiles seen, which are given last first
+--     Knows a seen         `a` is that, and the tiles seen do not end with four siblings
+--     Stepped n seen w r   what a step has to say of the word w behind the tiles seen: its refusal, or what is ahead of the next word
+-- Not here: what is refused (`ListCheck`), which does not speak of these.
+use mathlib.Core.Path.{_≡_}
+use mathlib.Core.Bool.{Bool, _&&_}
+use mathlib.Core.List.{List, [], _∷_}
+use Prim.Native.Nat.{ℕ, _+_, _≤_}
+use lib.Dec.{ltb, eqb}
+use Rattle.basics.specs.Choice.{if}
+use Rattle.refusal.specs.Refusal.{accepted}
+use Rattle.tile.specs.Tile.{Tile, stop, tileOf}
+use Rattle.quadtree.specs.Raster.{aligned}
+use Rattle.list_check.specs.declared.Ahead.{Ahead}
+use Rattle.list_check.specs.declared.Judged.{Judged}
+use Rattle.list_check.specs.ListCheck.{wordCheck}
+
+unfoldable pub joins : Ahead → Tile → Bool
+joins a t = ltb 0 (a .row) && (eqb (t .corner) (a .stop) && (eqb (t .size) (a .size) && eqb (t .account) (a .account)))
+
+unfoldable pub nextRow : Ahead → Tile → ℕ
+nextRow a t = if (aligned (t .size + 1) (t .corner)) 1 (if (joins a t) (a .row + 1) 0)
+
+unfoldable pub aheadOf : List Tile → Ahead
+aheadOf [] = record { stop = 0; size = 0; account = 0; row = 0 }
+aheadOf (t ∷ seen) = record { stop = stop t; size = t .size; account = t .account; row = nextRow (aheadOf seen) t }
+
+pub record Knows (a : Ahead) (seen : List Tile) : Type 0 where
+  pub few : a .row ≤ 3
+  pub is : a ≡ aheadOf seen
+
+pub record Stepped (n : ℕ) (seen : List Tile) (w : ℕ) (r : Judged) : Type 0 where
+  pub refusal : r .refusal ≡ wordCheck n seen w accepted
+  pub ahead : r .refusal ≡ accepted → Knows (r .ahead) (tileOf w ∷ seen)

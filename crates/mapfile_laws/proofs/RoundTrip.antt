@@ -1,0 +1,104 @@
+-- Reading a written file yields the same order and list.
+--     fileOf-accepted   the reader accepts the file of a valid list where there are slots for it
+--     read-write        and leaves the list in the slots, with its order and its tile count
+--     read-written      the same of the two calls: what an accepted write left is read
+use mathlib.Core.Path.{_≡_, refl, ap, sym, _∙_}
+use mathlib.Core.List.{List, [], _∷_, map, List·Memᴰ·head, List·Memᴰ·tail}
+use Prim.Native.Nat.{ℕ, _+_, _*_, _^_, _≤_, _<_}
+use native.Mathlib.Omega.{arith}
+use lib.ListN.{length, take, drop, length-map}
+use lib.Seq.{drop-drop, drop-at, take-at}
+use borrow.Author.Tests.{le-leb}
+use Rattle.basics.proofs.Tests.{test-leb}
+use Rattle.refusal.specs.Refusal.{accepted}
+use Rattle.refusal.specs.Checks.{must, orElse}
+use Rattle.refusal.proofs.CheckLaws.{must-inv, else-inv}
+use Rattle.tile.specs.Tile.{Tile, tileOf, wordOf, highestOrder, highestAccount}
+use Rattle.tile.specs.Slots.{tilesIn, filled}
+use Rattle.tile.proofs.TileLaws.{Packable, tileOf-account, wordOf-low}
+use Rattle.tile.proofs.SlotsLaws.{tiles-words, length-tilesIn, filled-tilesIn}
+use Rattle.quadtree.specs.Raster.{_∈_}
+use Rattle.quadtree.specs.Valid.{Valid}
+use Rattle.quadtree.proofs.Alignment.{area-mono}
+use Rattle.quadtree.proofs.ValidLaws.{valid-quadrant, valid-length}
+use Rattle.list_check.specs.ListCheck.{wordsCheck, listCheck}
+use Rattle.list_check.proofs.Accepts.{wordsCheck-valid, listCheck-valid}
+use Rattle.mapfile_bytes.specs.Items.{wordAt, wordsAt}
+use Rattle.mapfile_bytes.proofs.ItemsLaws.{word-whole}
+use Rattle.mapfile_roster.specs.Roster.{rosterOf}
+use Rattle.mapfile_roster.proofs.CoveredLaws.{covered-fits}
+use Rattle.mapfile_roster.proofs.RosterLaws.{rosterOf-good, rosterOf-pixels}
+use Rattle.mapfile_entries.specs.RosterCheck.{rosterCheck}
+use Rattle.mapfile_read.specs.Reader.{tilesCheck, fileOrder, fileCount, fileCheck, readOf}
+use Rattle.mapfile_read.proofs.ReaderLaws.{tilesCheck-words, readOf-accepted}
+use Rattle.mapfile_sections.specs.Sections.{wordsBytes, entriesBytes}
+use Rattle.mapfile_write.specs.Writer.{fileOf, writeCheck}
+use Rattle.mapfile_write.proofs.WriterLaws.{length-wordsBytes, fileOf-bytes, writeOf-accepted}
+use Rattle.mapfile_laws.specs.RoundTrip.{ReadWritten}
+use Rattle.mapfile_laws.proofs.Back.{words-back, roster-back}
+
+-- a file is accepted where its items are
+accept : (m n t : ℕ) (bs rs : List ℕ) (ts : List Tile) → 5 ≤ length bs → fileOrder bs ≡ n → n ≤ highestOrder → fileCount bs ≡ t → t ≤ m → tilesCheck n t [] bs 5 ≡ accepted → map tileOf (wordsAt t bs 5) ≡ ts → drop (5 + 4 * t) bs ≡ rs → rosterCheck ts rs ≡ accepted → fileCheck m bs ≡ accepted
+unfolding fileCheck must orElse
+accept m n t bs rs ts l en o et c e1 e2 e3 e4 = simp (en, et, le-leb 1 (length bs) (omega arith), le-leb n highestOrder o, le-leb 5 (length bs) l, le-leb t m c, e1, e2, e3, e4)
+
+module _ (n : ℕ) (ts : List Tile) (o : n ≤ highestOrder) (v : Valid n ts) (a : (t : Tile) → t ∈ ts → t .account ≤ highestAccount) where
+  packable : (t : Tile) → t ∈ ts → Packable t
+  packable t m = record { size = omega (arith, valid-quadrant v m .fits); account = a t m }
+
+  low : (t : Tile) → t ∈ ts → wordOf t < 2 ^ 32
+  low t m =
+      let l : 4 ^ n ≤ 4 ^ highestOrder = area-mono o in
+      let p = packable t m in
+      omega (arith, wordOf-low t (omega (arith, valid-quadrant v m .inside)) (p .size) (p .account))
+
+  count-back : fileCount (fileOf n ts) ≡ length ts
+  unfolding fileOf wordAt
+  count-back = let l : 4 ^ n ≤ 4 ^ highestOrder = area-mono o in word-whole (length ts) (omega (arith, valid-length v))
+
+  order-back : fileOrder (fileOf n ts) ≡ n
+  unfolding fileOf
+  order-back = refl
+
+  list-back : wordsAt (length ts) (fileOf n ts) 5 ≡ map wordOf ts
+  unfolding fileOf
+  list-back = words-back ts (fileOf n ts) (length (rosterOf ts) ∷ entriesBytes (rosterOf ts)) 5 low refl
+
+  tiles-back : map tileOf (wordsAt (length ts) (fileOf n ts) 5) ≡ ts
+  tiles-back = ap (λ (ws : List ℕ). map tileOf ws) list-back ∙ tiles-words ts packable
+
+  rest-back : drop (5 + 4 * length ts) (fileOf n ts) ≡ length (rosterOf ts) ∷ entriesBytes (rosterOf ts)
+  unfolding fileOf
+  rest-back = sym (drop-drop (4 * length ts) 5 (fileOf n ts)) ∙ drop-at (wordsBytes (map wordOf ts)) _ (4 * length ts) (omega (arith, length-wordsBytes (map wordOf ts), length-map ts wordOf))
+
+  words-pass : wordsCheck n [] (wordsAt (length ts) (fileOf n ts) 5) ≡ accepted
+  words-pass = wordsCheck-valid n o (wordsAt (length ts) (fileOf n ts) 5) .1 (rw tiles-back v)
+
+  pub fileOf-accepted : (m : ℕ) → length ts ≤ m → fileCheck m (fileOf n ts) ≡ accepted
+  fileOf-accepted m c =
+      accept m n (length ts) (fileOf n ts) (length (rosterOf ts) ∷ entriesBytes (rosterOf ts)) ts (omega (arith, fileOf-bytes n ts)) order-back o count-back c
+      (tilesCheck-words n (length ts) [] (fileOf n ts) 5 (omega (arith, fileOf-bytes n ts)) words-pass) tiles-back rest-back
+      (roster-back ts (rosterOf ts) (rosterOf-good v a) (λ e m. omega (arith, rosterOf-pixels ts e m, covered-fits (e .account) o v)))
+
+  pub read-write : (slots : List ℕ) → length ts ≤ length slots →
+      readOf (fileOf n ts) slots ≡ record { answer = record { number = accepted; order = n; tiles = length ts }; storage = filled (length slots) ts }
+  unfolding filled
+  read-write slots c = readOf-accepted (fileOf n ts) slots (fileOf-accepted (length slots) c) ∙ rw (order-back, count-back, list-back)
+
+tiles-accounts : (ws : List ℕ) (t : Tile) → t ∈ map tileOf ws → t .account ≤ highestAccount
+tiles-accounts (w ∷ ws) t (List·Memᴰ·head e) = rw e (tileOf-account w)
+tiles-accounts (w ∷ ws) t (List·Memᴰ·tail m) = tiles-accounts ws t m
+
+slots-accounts : (t : ℕ) (slots : List ℕ) (u : Tile) → u ∈ tilesIn t slots → u .account ≤ highestAccount
+unfolding tilesIn
+slots-accounts t slots u m = tiles-accounts (take t slots) u m
+
+pub read-written : ReadWritten
+unfolding writeCheck
+read-written n t slots file others e c =
+    let a = else-inv (listCheck n t slots) _ e in
+    let b = must-inv (test-leb (length (fileOf n (tilesIn t slots))) (length file)) (omega arith) (a .1) in
+    let v = listCheck-valid n t slots .0 (a .0) in
+    let l = length-tilesIn t slots (v .1) in
+    rw (writeOf-accepted n t slots file (a .0) (b .0), take-at (fileOf n (tilesIn t slots)) (drop (length (fileOf n (tilesIn t slots))) file) (length (fileOf n (tilesIn t slots))) refl)
+    (read-write n (tilesIn t slots) (v .0) (v .2) (slots-accounts t slots) others (omega arith) ∙ rw (l, filled-tilesIn (length others) t slots (v .1)))

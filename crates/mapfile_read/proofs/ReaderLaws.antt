@@ -1,0 +1,68 @@
+-- What an accepted file has.
+--     tilesCheck-words   words that are there are accepted just where the same words in slots are
+--     tilesCheck-valid   words that are accepted are there, and are a valid list
+--     Accepted m bs      the order, the count, the list and the roster of a file that is accepted with m slots
+--     readOf-valid       a file that the reader accepts has them
+--     readOf-accepted    what the reader then answers and leaves
+use mathlib.Core.Path.{_≡_, refl, sym, _∙_}
+use mathlib.Core.List.{List, [], _∷_, _++_, map}
+use Prim.Native.Nat.{ℕ, zero, suc, _+_, _-_, _*_, _≤_}
+use native.Mathlib.Omega.{arith}
+use lib.ListN.{length, drop, replicate}
+use Rattle.basics.proofs.Tests.{test-leb}
+use Rattle.refusal.specs.Refusal.{accepted, fileCutShort}
+use Rattle.refusal.proofs.CheckLaws.{must-on, must-inv, else-on, else-inv, unless-on}
+use Rattle.tile.specs.Tile.{Tile, tileOf, highestOrder}
+use Rattle.quadtree.specs.Valid.{Valid}
+use Rattle.list_check.specs.ListCheck.{wordsCheck}
+use Rattle.list_check.proofs.OneWord.{wordCheck-rest}
+use Rattle.list_check.proofs.Accepts.{wordsCheck-valid}
+use Rattle.mapfile_bytes.specs.Items.{wordAt, wordsAt}
+use Rattle.mapfile_bytes.proofs.ItemsLaws.{wordsAt-length}
+use Rattle.mapfile_entries.specs.RosterCheck.{rosterCheck}
+use Rattle.mapfile_read.specs.Reader.{tilesCheck, fileOrder, fileCount, fileWords, fileCheck, readOf}
+
+module _ (n : ℕ) where
+  passed-words : (t : ℕ) (seen : List Tile) (bs : List ℕ) (p : ℕ) → p ≤ length bs → tilesCheck n t seen bs p ≡ accepted → (p + 4 * t ≤ length bs) × (wordsCheck n seen (wordsAt t bs p) ≡ accepted)
+  unfolding tilesCheck wordsCheck wordsAt
+  passed-words zero seen bs p h e = (omega arith, refl)
+  passed-words (suc t) seen bs p h e =
+      let a = must-inv (test-leb (p + 4) (length bs)) (omega arith) e in
+      let b = else-inv _ _ (sym (wordCheck-rest n seen (wordAt bs p) _) ∙ a .1) in
+      let c = passed-words t (tileOf (wordAt bs p) ∷ seen) bs (p + 4) (a .0) (b .1) in
+      (omega (arith, c .0), wordCheck-rest n seen (wordAt bs p) _ ∙ else-on _ _ (b .0) ∙ c .1)
+
+  pub tilesCheck-words : (t : ℕ) (seen : List Tile) (bs : List ℕ) (p : ℕ) → p + 4 * t ≤ length bs → wordsCheck n seen (wordsAt t bs p) ≡ accepted → tilesCheck n t seen bs p ≡ accepted
+  unfolding tilesCheck wordsCheck wordsAt
+  tilesCheck-words zero seen bs p h e = refl
+  tilesCheck-words (suc t) seen bs p h e =
+      let b = else-inv _ _ (sym (wordCheck-rest n seen (wordAt bs p) _) ∙ e) in
+      must-on fileCutShort _ (test-leb (p + 4) (length bs)) (omega arith) ∙ wordCheck-rest n seen (wordAt bs p) _ ∙ else-on _ _ (b .0)
+      ∙ tilesCheck-words t (tileOf (wordAt bs p) ∷ seen) bs (p + 4) (omega arith) (b .1)
+
+  pub tilesCheck-valid : n ≤ highestOrder → (t : ℕ) (bs : List ℕ) → 5 ≤ length bs → tilesCheck n t [] bs 5 ≡ accepted → (5 + 4 * t ≤ length bs) × Valid n (map tileOf (wordsAt t bs 5))
+  tilesCheck-valid o t bs h e = let a = passed-words t [] bs 5 h e in (a .0, wordsCheck-valid n o (wordsAt t bs 5) .0 (a .1))
+
+pub record Accepted (m : ℕ) (bs : List ℕ) : Type 0 where
+  pub order : fileOrder bs ≤ highestOrder
+  pub count : fileCount bs ≤ m
+  pub length-words : length (fileWords bs) ≡ fileCount bs
+  pub valid : Valid (fileOrder bs) (map tileOf (fileWords bs))
+  pub room : 5 + 4 * fileCount bs ≤ length bs
+  pub roster : rosterCheck (map tileOf (fileWords bs)) (drop (5 + 4 * fileCount bs) bs) ≡ accepted
+
+pub readOf-valid : (m : ℕ) (bs : List ℕ) → fileCheck m bs ≡ accepted → Accepted m bs
+unfolding fileCheck
+readOf-valid m bs e =
+    let a = must-inv (test-leb 1 (length bs)) (omega arith) e in
+    let b = must-inv (test-leb (fileOrder bs) highestOrder) (omega arith) (a .1) in
+    let c = must-inv (test-leb 5 (length bs)) (omega arith) (b .1) in
+    let d = must-inv (test-leb (fileCount bs) m) (omega arith) (c .1) in
+    let f = else-inv _ _ (d .1) in
+    let w = tilesCheck-valid (fileOrder bs) (b .0) (fileCount bs) bs (c .0) (f .0) in
+    record { order = b .0; count = d .0; length-words = wordsAt-length (fileCount bs) bs 5; valid = w .1; room = w .0; roster = f .1 }
+
+pub readOf-accepted : (bs slots : List ℕ) → fileCheck (length slots) bs ≡ accepted →
+    readOf bs slots ≡ record { answer = record { number = accepted; order = fileOrder bs; tiles = fileCount bs }; storage = fileWords bs ++ replicate (length slots - fileCount bs) 0 }
+unfolding readOf
+readOf-accepted bs slots e = unless-on _ _ _ e

@@ -1,0 +1,104 @@
+// The reader of a map file. A file is any bytes: everything is examined first, read only, and stored then.
+ghost use mathlib.Core.Path.{_≡_};
+ghost use mathlib.Core.List.{[], _++_};
+ghost use Prim.Native.Nat.{_+_, _*_, _≤_};
+ghost use lib.ListN.{length, drop};
+ghost use Rattle.refusal.specs.Checks.{After};
+ghost use Rattle.tile.specs.Tile.{highestOrder};
+ghost use Rattle.mapfile_bytes.specs.Items.{wordsAt};
+ghost use Rattle.mapfile_read.specs.Reader.{tilesCheck, fileCheck, readOf};
+
+// The reader's answer: the order and the tile count of the list read.
+#[repr(C)]
+pub struct Reading {
+    pub number: u32,
+    pub order: u32,
+    pub tiles: usize,
+}
+
+// The words in turn, each where the bytes have it.
+fn words(order: u32, tiles: usize, file: &[u8]) -> u32
+    requires { ⌜ (order ≤ highestOrder) × (5 ≤ length (now file)) ⌝ }
+    ensures { λ r. ⌜ r ≡ tilesCheck order tiles [] (now (file .entry)) 5 ⌝ }
+{
+    let mut ahead = list_check::start();
+    let mut i = 0;
+    let mut p = 5;
+    while i < tiles {
+        if file.len() - p < 4 {
+            return refusal::FILE_CUT_SHORT;
+        }
+        let judged = list_check::step(order, ahead, mapfile_bytes::word_at(file, p));
+        let refusal = judged.refusal;
+        if refusal != refusal::ACCEPTED {
+            return refusal;
+        }
+        ahead = judged.ahead;
+        i += 1;
+        p += 4;
+    }
+    refusal::ACCEPTED
+}
+
+// Every check of a file for a number of slots. The tile count is tested before anything is computed of it.
+fn examine(slots: usize, file: &[u8]) -> u32
+    ensures { λ r. ⌜ r ≡ fileCheck slots (now (file .entry)) ⌝ }
+{
+    if file.len() < 1 {
+        return refusal::FILE_CUT_SHORT;
+    }
+    let order = mapfile_bytes::wide(file[0]);
+    if tile::HIGHEST_ORDER < order {
+        return refusal::ORDER_TOO_LARGE;
+    }
+    if file.len() < 5 {
+        return refusal::FILE_CUT_SHORT;
+    }
+    let tiles = mapfile_bytes::long(mapfile_bytes::word_at(file, 1));
+    if slots < tiles {
+        return refusal::SLOTS_EXCEEDED;
+    }
+    let refused = words(order, tiles, file);
+    if refused != refusal::ACCEPTED {
+        return refused;
+    }
+    let at = 5 + 4 * tiles;
+    mapfile_entries::check(order, tiles, file, &file[at..])
+}
+
+// The words of the file into the slots.
+fn store(tiles: usize, file: &[u8], slots: &mut [u32])
+    requires { ⌜ (5 + 4 * tiles ≤ length (now file)) × (tiles ≤ length (now slots)) ⌝ }
+    ensures { λ r. ⌜ now (slots .exit) ≡ wordsAt tiles (now (file .entry)) 5 ++ drop tiles (now (slots .entry)) ⌝ }
+{
+    let mut i = 0;
+    let mut p = 5;
+    while i < tiles {
+        slots[i] = mapfile_bytes::word_at(file, p);
+        i += 1;
+        p += 4;
+    }
+}
+
+// The offered call: reads a file and leaves its list in the slots, the rest of them 0, or answers the first refusal and changes no slot.
+pub fn read(file: &[u8], slots: &mut [u32]) -> Reading
+    ensures { λ r. ⌜ _≡_ {A = After Reading} (record { answer = r; storage = now (slots .exit) }) (readOf (now (file .entry)) (now (slots .entry))) ⌝ }
+{
+    let number = examine(slots.len(), file);
+    if number != refusal::ACCEPTED {
+        return Reading {
+            number,
+            order: 0,
+            tiles: 0,
+        };
+    }
+    let order = mapfile_bytes::wide(file[0]);
+    let tiles = mapfile_bytes::long(mapfile_bytes::word_at(file, 1));
+    store(tiles, file, slots);
+    list_words::clear_from(slots, tiles);
+    Reading {
+        number: refusal::ACCEPTED,
+        order,
+        tiles,
+    }
+}

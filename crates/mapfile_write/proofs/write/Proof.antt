@@ -1,0 +1,54 @@
+-- A refusal leaves before any store; what list checking accepts is valid, so that its length fits and its file is the definition's.
+use mathlib.Core.Path.{sym, _∙_}
+use Rattle.tile.specs.Slots.{tilesIn}
+use Rattle.list_check.proofs.Accepts.{listCheck-valid}
+use Rattle.mapfile_roster.proofs.RosterLaws.{rosterOf-few}
+use Rattle.mapfile_write.proofs.WriterLaws.{few-tiles, fileOf-size, writeOf-refused, writeOf-short, writeOf-put}
+use native.Mathlib.Omega.{arith}
+use borrow.Author.Needs.{needs}
+use Rattle.mapfile_write.proofs.write.Statement.{statement}
+use Rattle.mapfile_write.proofs.write.Tie as tie
+
+returns : tie.Need-returns
+returns c = writeOf-refused _ _ _ _ _ (c .before .check .ensures) (c .if1 .taken)
+
+accounts-requires : tie.Need-accounts-requires
+accounts-requires c κs = listCheck-valid _ _ _ .0 (sym (c .before .check .ensures) ∙ c .if1 .left) .1
+
+mul-length : tie.Need-mul-length
+mul-length c =
+    let v = listCheck-valid (c .before .before .before .before .before .args .order) (c .before .before .before .before .before .args .tiles) (c .before .before .before .before .before .args .slots .now) .0 (sym (c .before .before .check .ensures) ∙ c .before .if1 .left) in
+    omega (arith, few-tiles (c .before .before .before .before .before .args .order) (c .before .before .before .before .before .args .tiles) (c .before .before .before .before .before .args .slots .now) (v .0) (v .1) (v .2))
+
+add-length : tie.Need-add-length
+add-length c =
+    let v = listCheck-valid (c .before .before .before .before .before .args .order) (c .before .before .before .before .before .args .tiles) (c .before .before .before .before .before .args .slots .now) .0 (sym (c .before .before .check .ensures) ∙ c .before .if1 .left) in
+    omega (arith, few-tiles (c .before .before .before .before .before .args .order) (c .before .before .before .before .before .args .tiles) (c .before .before .before .before .before .args .slots .now) (v .0) (v .1) (v .2))
+
+mul-length-2 : tie.Need-mul-length-2
+mul-length-2 c = omega (arith, c .accounts .ensures, rosterOf-few (tilesIn (c .before .before .before .before .before .args .tiles) (c .before .before .before .before .before .args .slots .now)))
+
+add-length-2 : tie.Need-add-length-2
+add-length-2 c =
+    let v = listCheck-valid (c .before .before .before .before .before .args .order) (c .before .before .before .before .before .args .tiles) (c .before .before .before .before .before .args .slots .now) .0 (sym (c .before .before .check .ensures) ∙ c .before .if1 .left) in
+    omega (arith, c .accounts .ensures, rosterOf-few (tilesIn (c .before .before .before .before .before .args .tiles) (c .before .before .before .before .before .args .slots .now)), few-tiles (c .before .before .before .before .before .args .order) (c .before .before .before .before .before .args .tiles) (c .before .before .before .before .before .args .slots .now) (v .0) (v .1) (v .2))
+
+returns-2 : tie.Need-returns-2
+returns-2 c =
+    let e = sym (c .before .before .before .check .ensures) ∙ c .before .before .if1 .left in
+    let v = listCheck-valid (c .before .before .before .before .before .before .args .order) (c .before .before .before .before .before .before .args .tiles) (c .before .before .before .before .before .before .args .slots .now) .0 e in
+    writeOf-short _ _ _ _ e (omega (arith, fileOf-size (c .before .before .before .before .before .before .args .order) (c .before .before .before .before .before .before .args .tiles) (c .before .accounts .result) (c .before .before .before .before .before .before .args .slots .now) (v .1) (c .before .accounts .ensures)))
+
+put-file-requires : tie.Need-put-file-requires
+put-file-requires c κs =
+    let v = listCheck-valid (c .before .before .before .before .before .before .before .args .order) (c .before .before .before .before .before .before .before .args .tiles) (c .before .before .before .before .before .before .before .args .slots .now) .0 (sym (c .before .before .before .before .check .ensures) ∙ c .before .before .before .if1 .left) in
+    (v .0, v .1, v .2, c .before .before .accounts .ensures, omega arith)
+
+returns-3 : tie.Need-returns-3
+returns-3 c =
+    let e = sym (c .before .before .before .before .before .before .before .check .ensures) ∙ c .before .before .before .before .before .before .if1 .left in
+    let v = listCheck-valid (c .before .before .before .before .before .before .before .before .before .before .args .order) (c .before .before .before .before .before .before .before .before .before .before .args .tiles) (c .before .before .before .before .before .before .before .before .before .before .args .slots .now) .0 e in
+    writeOf-put _ _ _ _ e _ (fileOf-size (c .before .before .before .before .before .before .before .before .before .before .args .order) (c .before .before .before .before .before .before .before .before .before .before .args .tiles) (c .before .before .before .before .before .accounts .result) (c .before .before .before .before .before .before .before .before .before .before .args .slots .now) (v .1) (c .before .before .before .before .before .accounts .ensures)) (omega arith) (c .before .before .put-file .ensures)
+
+pub write-spec : {M : Type 1} → statement M
+write-spec = tie.close (tie.spec (λ c κs. search needs) returns accounts-requires mul-length add-length mul-length-2 add-length-2 returns-2 put-file-requires (λ c. search needs) returns-3)

@@ -1,0 +1,53 @@
+// The writer of a map file.
+ghost use mathlib.Core.Path.{_≡_};
+ghost use Prim.Native.Nat.{_+_, _*_, _≤_};
+ghost use lib.ListN.{length};
+ghost use lib.Seq.{sets};
+ghost use Rattle.refusal.specs.Checks.{After};
+ghost use Rattle.tile.specs.Tile.{highestOrder};
+ghost use Rattle.tile.specs.Slots.{tilesIn};
+ghost use Rattle.quadtree.specs.Valid.{Valid};
+ghost use Rattle.mapfile_roster.specs.Roster.{rosterOf};
+ghost use Rattle.mapfile_write.specs.Writer.{fileOf, writeOf};
+
+// The writer's answer: the bytes written.
+#[repr(C)]
+pub struct Written {
+    pub number: u32,
+    pub length: usize,
+}
+
+// The whole file of a valid list, which the bytes have room for.
+fn put_file(order: u32, tiles: usize, slots: &[u32], accounts: usize, file: &mut [u8])
+    requires { ⌜ (order ≤ highestOrder) × (tiles ≤ length (now slots)) × Valid order (tilesIn tiles (now slots)) × (accounts ≡ length (rosterOf (tilesIn tiles (now slots)))) × (6 + 4 * tiles + 5 * accounts ≤ length (now file)) ⌝ }
+    ensures { λ r. ⌜ now (file .exit) ≡ sets (now (file .entry)) 0 (fileOf order (tilesIn tiles (now (slots .entry)))) ⌝ }
+{
+    file[0] = order as u8;
+    mapfile_sections::put(file, 1, tiles as u32);
+    mapfile_sections::put_words(tiles, slots, file);
+    let at = 5 + 4 * tiles;
+    mapfile_sections::put_roster(order, tiles, slots, accounts, &mut file[at..]);
+}
+
+// The offered call: writes the file of a list and answers its length, or answers the first refusal and changes no byte.
+pub fn write(order: u32, tiles: usize, slots: &[u32], file: &mut [u8]) -> Written
+    ensures { λ r. ⌜ _≡_ {A = After Written} (record { answer = r; storage = now (file .exit) }) (writeOf order tiles (now (slots .entry)) (now (file .entry))) ⌝ }
+{
+    let number = list_check::check(order, tiles, slots);
+    if number != refusal::ACCEPTED {
+        return Written { number, length: 0 };
+    }
+    let accounts = mapfile_sections::accounts(tiles, slots);
+    let length = 6 + 4 * tiles + 5 * accounts;
+    if file.len() < length {
+        return Written {
+            number: refusal::BYTES_TOO_FEW,
+            length: 0,
+        };
+    }
+    put_file(order, tiles, slots, accounts, file);
+    Written {
+        number: refusal::ACCEPTED,
+        length,
+    }
+}

@@ -1,0 +1,15 @@
+-- The pixel is pushed where the gap lies.
+use Rattle.scan_gap.proofs.Pixel.{placed-pushed}
+use borrow.Author.Needs.{needs}
+use Rattle.scan_gap.proofs.put.Statement.{statement}
+use Rattle.scan_gap.proofs.put.Tie as tie
+
+returns : tie.Need-returns
+returns c =
+    let s = c .before .before .before .before .before .before .before .before .before in
+    let g = c .before .before .before .before .before .before .seek in
+    let p = c .before .before .push in
+    placed-pushed _ _ _ _ _ _ _ (g .result) (p .result) (s .pre .1 .0 .1) (g .kept .0) (p .kept .0) (g .ensures) (p .ensures)
+
+pub put-spec : {M : Type 1} → statement M
+put-spec = tie.close (tie.spec (λ c κs. search needs) (λ c κs. search needs) (λ c. search needs) returns)
