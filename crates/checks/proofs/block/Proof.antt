@@ -18,17 +18,26 @@ returns c = simp (lt-leb _ _ (c .if1 .taken))
 
 returns-2 : tie.Need-returns-2
 unfolding blockCheck blockIn aligned must
-returns-2 c = let h : 4 ^ (c .before .before .before .args .order) ≤ c .before .before .before .args .corner = omega (arith, c .before .area .ensures) in simp (le-leb _ _ (c .before .before .if1 .left), le-ltb _ _ h)
+returns-2 c =
+    let a = c .before .before .before .args in
+    let h : 4 ^ (a .order) ≤ a .corner = omega (arith, c .before .area .ensures) in
+    simp (le-leb _ _ (c .before .before .if1 .left), le-ltb _ _ h)
 
 returns-3 : tie.Need-returns-3
 returns-3 c =
     let a = c .before .before .before .before .before .args in
-    block-unaligned (a .order) (a .corner) (a .size) (c .before .area2 .result) (c .before .area2 .ensures) (omega arith) (omega (arith, c .before .before .before .area .ensures)) (c .if3 .taken)
+    let area = c .before .before .before .area in
+    block-unaligned (a .order) (a .corner) (a .size) (c .before .area2 .result) (c .before .area2 .ensures) (omega arith) (omega (
+      arith,
+      area .ensures,
+    )) (c .if3 .taken)
 
 returns-4 : tie.Need-returns-4
 returns-4 c =
     let a = c .before .before .before .before .before .args in
-    block-inside (a .order) (a .corner) (a .size) (c .before .area2 .result) (c .before .area2 .ensures) (omega arith) (omega (arith, c .before .before .before .area .ensures)) (c .if3 .left)
+    let area = c .before .before .before .area in
+    block-inside (a .order) (a .corner) (a .size) (c .before .area2 .result) (c .before .area2 .ensures) (omega arith) (omega (arith, area .ensures))
+    (c .if3 .left)
 
 rem-if3 : tie.Need-rem-if3
 rem-if3 c = omega (arith, c .area2 .ensures, area-pos (c .before .before .before .before .args .size))

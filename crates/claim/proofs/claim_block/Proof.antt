@@ -13,13 +13,27 @@ returns : tie.Need-returns
 returns c = known-refused (known (c .before .before)) (c .if1 .taken)
 
 returns-2 : tie.Need-returns-2
-returns-2 c = known-done (known (c .before .before .before .before .before .before .before .before .before .before .before .before .before .before .before)) (c .before .before .before .before .before .before .before .before .before .before .make-room .ensures) (c .before .before .before .before .before .before .write-pieces .ensures) _ (c .before .before .before .before .before .before .before .before .before .before .before .before .before .if1 .left) (omega (arith, c .before .before .before .before .before .before .before .before .before .before .make-room .kept, c .before .before .before .before .before .before .write-pieces .kept)) (c .before .before .clear-from .ensures)
+returns-2 c =
+    let make-room = c .before .before .before .before .before .before .before .before .before .before .make-room in
+    let write-pieces = c .before .before .before .before .before .before .write-pieces in
+    let if1 = c .before .before .before .before .before .before .before .before .before .before .before .before .before .if1 in
+    known-done (known (c .before .before .before .before .before .before .before .before .before .before .before .before .before .before .before))
+    (make-room .ensures) (write-pieces .ensures) _ (if1 .left) (omega (arith, make-room .kept, write-pieces .kept))
+    (c .before .before .clear-from .ensures)
 
 make-room-requires : tie.Need-make-room-requires
 make-room-requires c κs = omega (arith, bounds (known (c .before .before .before .before)), c .before .before .if1 .left)
 
 write-pieces-requires : tie.Need-write-pieces-requires
-write-pieces-requires c κs = (known-drawn (known (c .before .before .before .before .before .before .before .before)) _ (omega (arith, c .before .before .before .make-room .kept)) (c .before .before .before .before .before .before .if1 .left), bounds (known (c .before .before .before .before .before .before .before .before)) .pieces)
+write-pieces-requires c κs =
+    let make-room = c .before .before .before .make-room in
+    let if1 = c .before .before .before .before .before .before .if1 in (
+      known-drawn (known (c .before .before .before .before .before .before .before .before)) _ (omega (arith, make-room .kept)) (if1 .left),
+      bounds
+          (known (c .before .before .before .before .before .before .before .before)) .pieces,
+    )
 
 pub claim-block-spec : {M : Type 1} → statement M
-claim-block-spec = tie.close (tie.spec (λ c κs. search needs) (λ c. search needs) returns make-room-requires write-pieces-requires (λ c κs. search needs) (λ c. search needs) returns-2)
+claim-block-spec =
+    tie.close (tie.spec (λ c κs. search needs) (λ c. search needs) returns make-room-requires write-pieces-requires (λ c κs. search needs)
+    (λ c. search needs) returns-2)

@@ -24,7 +24,9 @@ returns-3 : tie.Need-returns-3
 returns-3 c = beside-ahead (sided (c .before .before .before .before)) (c .before .is-run .ensures) (not-true _ (c .if3 .taken))
 
 returns-4 : tie.Need-returns-4
-returns-4 c = beside-behind (sided (c .before .before .before .before .before)) (omega arith) (omega arith) (c .before .before .is-run .ensures) (not-false _ (c .before .if3 .left)) (c .is-run2 .ensures)
+returns-4 c =
+    beside-behind (sided (c .before .before .before .before .before)) (omega arith) (omega arith) (c .before .before .is-run .ensures) (not-false _
+    (c .before .if3 .left)) (c .is-run2 .ensures)
 
 area-requires : tie.Need-area-requires
 area-requires c κs = omega (arith, c .before .pre .2 .size)
@@ -48,7 +50,11 @@ add-is-run : tie.Need-add-is-run
 add-is-run c = omega (arith, room (c .before .before .before .before))
 
 is-run-requires-2 : tie.Need-is-run-requires-2
-is-run-requires-2 c κs = (omega (arith, room (c .before .before .before .before)), c .before .before .before .before .before .before .pre .2 .size, room (c .before .before .before .before) .behind)
+is-run-requires-2 c κs =
+    let p = c .before .before .before .before .before .before .pre in
+    (omega (arith, room (c .before .before .before .before)), p .2 .size, room (c .before .before .before .before) .behind)
 
 pub beside-spec : {M : Type 1} → statement M
-beside-spec = tie.close (tie.spec area-requires div-place (λ c. search needs) sub-after returns (λ c. search needs) returns-2 mul-is-run sub-is-run is-run-requires returns-3 add-is-run is-run-requires-2 returns-4)
+beside-spec =
+    tie.close (tie.spec area-requires div-place (λ c. search needs) sub-after returns (λ c. search needs) returns-2 mul-is-run sub-is-run
+    is-run-requires returns-3 add-is-run is-run-requires-2 returns-4)

@@ -13,7 +13,8 @@ use Rattle.claim_merge.proofs.merge.Statement.{statement}
 use Rattle.claim_merge.proofs.merge.Tie as tie
 
 abbrev Inv-loop : tie.InvT-loop
-Inv-loop order list lo hi corner size account from₀ to₀ c₀ k₀ from to c k = Stands (claimed (accountAt (map tileOf list)) corner size account) order (map tileOf list) account from to c k
+Inv-loop order list lo hi corner size account from₀ to₀ c₀ k₀ from to c k =
+    Stands (claimed (accountAt (map tileOf list)) corner size account) order (map tileOf list) account from to c k
 
 abbrev μ-loop : tie.MeasureT-loop
 μ-loop order list lo hi corner size account from₀ to₀ c₀ k₀ from to c k = from + (length list - to)
@@ -22,14 +23,19 @@ loop-holds : tie.Need-loop-holds Inv-loop μ-loop
 loop-holds c = c .before .pre .1
 
 loop-again : tie.Need-loop-again Inv-loop μ-loop
-loop-again c = stands-up (c .before .before .before .loop .inv) (c .area .result) (c .area .ensures) (told-true (c .before .before .beside .ensures) (c .before .if1 .taken))
+loop-again c =
+    let l = c .before .before .before .loop in
+    stands-up (l .inv) (c .area .result) (c .area .ensures) (told-true (c .before .before .beside .ensures) (c .before .if1 .taken))
 
 returns : tie.Need-returns Inv-loop μ-loop
 returns c = stands-merges (c .before .before .loop .inv) (told-false (c .before .beside .ensures) (c .if1 .left))
 
 -- what is known in a turn
 turn : (c : tie.After-area Inv-loop μ-loop) → Turn (length (map tileOf (c .before .before .before .before .before .args .list .now))) (c .before .before .before .loop .from) (c .before .before .before .loop .to) (c .before .before .before .loop .c) (c .before .before .before .loop .k) (c .area .result)
-turn c = stands-turn (c .before .before .before .loop .inv) (c .before .before .before .before .before .pre .0) (c .area .result) (c .area .ensures) (told-true (c .before .before .beside .ensures) (c .before .if1 .taken))
+turn c =
+    let l = c .before .before .before .loop in
+    let p = c .before .before .before .before .before .pre in
+    stands-turn (l .inv) (p .0) (c .area .result) (c .area .ensures) (told-true (c .before .before .beside .ensures) (c .before .if1 .taken))
 
 beside-requires : tie.Need-beside-requires Inv-loop μ-loop
 beside-requires c κs =
@@ -68,4 +74,6 @@ loop-less : tie.Need-loop-less Inv-loop μ-loop
 loop-less c = omega (arith, turn c, length-map (c .before .before .before .before .before .args .list .now) tileOf)
 
 pub merge-spec : {M : Type 1} → statement M
-merge-spec = tie.close (tie.spec Inv-loop μ-loop loop-holds beside-requires area-requires div-place cast-before sub-from sub-to add-to mul-c sub-c add-k loop-less loop-again returns)
+merge-spec =
+    tie.close (tie.spec Inv-loop μ-loop loop-holds beside-requires area-requires div-place cast-before sub-from sub-to add-to mul-c sub-c add-k
+    loop-less loop-again returns)

@@ -11,7 +11,10 @@ use Rattle.claim_plan.proofs.plan.Tie as tie
 -- the numbers of the change
 sums : (c : tie.After-count-pieces) → Sums (c .before .before .before .before .before .args .tiles) (c .count-pieces .result) (c .before .before .find-change .result)
 unfolding tilesIn
-sums c = let s = c .before .before .before .before .before in changes-sums (c .before .before .find-change .ensures) (s .args .tiles) (c .count-pieces .result) (length-tilesIn (s .args .tiles) (s .args .slots .now) (s .pre .0)) (c .count-pieces .ensures) (s .pre .1 .order)
+sums c =
+    let s = c .before .before .before .before .before in
+    changes-sums (c .before .before .find-change .ensures) (s .args .tiles) (c .count-pieces .result) (length-tilesIn (s .args .tiles)
+    (s .args .slots .now) (s .pre .0)) (c .count-pieces .ensures) (s .pre .1 .order)
 
 slice-aggregate-find-change : tie.Need-slice-aggregate-find-change
 slice-aggregate-find-change c = sym (length-take-le (c .before .before .args .tiles) (c .before .before .args .slots .now) (c .before .before .pre .0))
@@ -37,7 +40,17 @@ add-t14 c = omega (arith, sums (c .before .before), c .before .before .before .b
 
 returns : tie.Need-returns
 unfolding tilesIn
-returns c = record { change = c .before .before .before .before .find-change .ensures; pieces = c .before .before .count-pieces .ensures ∙ changes-pieces (c .before .before .before .before .find-change .ensures); tiles = changes-tiles (c .before .before .before .before .find-change .ensures) (c .before .before .before .before .before .before .before .args .tiles) (c .before .before .count-pieces .result) (length-tilesIn (c .before .before .before .before .before .before .before .args .tiles) (c .before .before .before .before .before .before .before .args .slots .now) (c .before .before .before .before .before .before .before .pre .0)) (c .before .before .count-pieces .ensures) }
+returns c =
+    let find-change = c .before .before .before .before .find-change in
+    let count-pieces = c .before .before .count-pieces in
+    let a = c .before .before .before .before .before .before .before .args in
+    let p = c .before .before .before .before .before .before .before .pre in
+    record {
+      change = find-change .ensures;
+      pieces = count-pieces .ensures ∙ changes-pieces (find-change .ensures);
+      tiles = changes-tiles
+          (find-change .ensures) (a .tiles) (count-pieces .result) (length-tilesIn (a .tiles) (a .slots .now) (p .0)) (count-pieces .ensures);
+    }
 
 pub plan-spec : {M : Type 1} → statement M
 plan-spec = tie.close (tie.spec slice-aggregate-find-change find-change-requires sub-count-pieces count-pieces-requires sub-left add-t13 add-t14 returns)

@@ -5,10 +5,18 @@ use Rattle.claim_plan.proofs.split.Statement.{statement}
 use Rattle.claim_plan.proofs.split.Tie as tie
 
 returns : tie.Need-returns
-returns c = covered-kept (c .before .before .before .before .before .before .pre .0) (c .before .before .before .before .before .before .pre .1) (c .before .before .before .before .before .before .pre .2) _ _ _ (c .before .before .before .corner .ensures) (c .before .before .size .ensures) (c .before .account .ensures) (c .if1 .taken)
+returns c =
+    let p = c .before .before .before .before .before .before .pre in
+    let corner = c .before .before .before .corner in
+    covered-kept (p .0) (p .1) (p .2) _ _ _ (corner .ensures) (c .before .before .size .ensures) (c .before .account .ensures) (c .if1 .taken)
 
 returns-2 : tie.Need-returns-2
-returns-2 c = covered-split (c .before .before .before .before .before .before .pre .0) (c .before .before .before .before .before .before .pre .1) (c .before .before .before .before .before .before .pre .2) _ _ _ (c .before .before .before .corner .ensures) (c .before .before .size .ensures) (c .before .account .ensures) (c .if1 .left)
+returns-2 c =
+    let p = c .before .before .before .before .before .before .pre in
+    let corner = c .before .before .before .corner in
+    covered-split (p .0) (p .1) (p .2) _ _ _ (corner .ensures) (c .before .before .size .ensures) (c .before .account .ensures) (c .if1 .left)
 
 pub split-spec : {M : Type 1} → statement M
-split-spec = tie.close (tie.spec (λ c. search needs) (λ c. search needs) (λ c κs. search needs) (λ c κs. search needs) (λ c κs. search needs) (λ c. search needs) returns (λ c. search needs) returns-2)
+split-spec =
+    tie.close (tie.spec (λ c. search needs) (λ c. search needs) (λ c κs. search needs) (λ c κs. search needs) (λ c κs. search needs)
+    (λ c. search needs) returns (λ c. search needs) returns-2)

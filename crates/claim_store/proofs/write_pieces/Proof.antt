@@ -28,11 +28,16 @@ loop-holds c = (record { drawn = c .before .before .pre .0; end = omega (arith, 
 loop-again : tie.Need-loop-again Inv-loop μ-loop
 loop-again c =
     let l = c .before .before .before .before .before .before .before .before .before .before .loop in
-    let q : length (c .before .before .write-run2 .last .0) ≡ length (l .slots) = omega (arith, c .before .before .write-run2 .kept, c .before .before .before .before .before .before .write-run .kept) in
-    (put-level (l .inv .0) (omega arith) (c .before .before .before .before .before .before .before .before .area .ensures) (c .before .before .before .before .before .before .write-run .ensures) (c .before .before .write-run2 .ensures) q, q ∙ l .inv .1)
+    let write-run2 = c .before .before .write-run2 in
+    let write-run = c .before .before .before .before .before .before .write-run in
+    let area = c .before .before .before .before .before .before .before .before .area in
+    let q : length (write-run2 .last .0) ≡ length (l .slots) = omega (arith, write-run2 .kept, write-run .kept) in
+    (put-level (l .inv .0) (omega arith) (area .ensures) (write-run .ensures) (write-run2 .ensures) q, q ∙ l .inv .1)
 
 returns : tie.Need-returns Inv-loop μ-loop
-returns c = rw (c .pack .ensures) (put-one (c .before .before .before .loop .inv .0) (omega (arith, c .before .before .before .loop .inv .0 .drawn .sizes)) (c .before .if1 .taken))
+returns c =
+    let l = c .before .before .before .loop in
+    rw (c .pack .ensures) (put-one (l .inv .0) (omega (arith, l .inv .0 .drawn .sizes)) (c .before .if1 .taken))
 
 returns-2 : tie.Need-returns-2 Inv-loop μ-loop
 returns-2 c = put-none (c .before .before .loop .inv .0) (omega (arith, c .before .before .loop .inv .0 .drawn .sizes)) (c .if1 .left)
@@ -56,7 +61,9 @@ sub-after : tie.Need-sub-after Inv-loop μ-loop
 sub-after c = omega (arith, turn c)
 
 write-run-requires : tie.Need-write-run-requires Inv-loop μ-loop
-write-run-requires c κs = (omega (arith, turn (c .before) .drawn .fits), turn (c .before) .small, c .before .before .before .loop .inv .0 .drawn .owner, turn (c .before) .ahead)
+write-run-requires c κs =
+    let l = c .before .before .before .loop in
+    (omega (arith, turn (c .before) .drawn .fits), turn (c .before) .small, l .inv .0 .drawn .owner, turn (c .before) .ahead)
 
 mul-d : tie.Need-mul-d Inv-loop μ-loop
 mul-d c = omega (arith, turn (c .before .before .before .before))
@@ -71,7 +78,13 @@ add-write-run : tie.Need-add-write-run Inv-loop μ-loop
 add-write-run c = omega (arith, turn (c .before .before .before .before .before))
 
 write-run-requires-2 : tie.Need-write-run-requires-2 Inv-loop μ-loop
-write-run-requires-2 c κs = (omega (arith, turn (c .before .before .before .before .before), turn (c .before .before .before .before .before) .drawn .fits, c .before .before .before .before .before .before .before .loop .inv .0 .end), turn (c .before .before .before .before .before) .small, c .before .before .before .before .before .before .before .loop .inv .0 .drawn .owner, turn (c .before .before .before .before .before) .behind)
+write-run-requires-2 c κs =
+    let l = c .before .before .before .before .before .before .before .loop in (
+      omega (arith, turn (c .before .before .before .before .before), turn (c .before .before .before .before .before) .drawn .fits, l .inv .0 .end),
+      turn (c .before .before .before .before .before) .small,
+      l .inv .0 .drawn .owner,
+      turn (c .before .before .before .before .before) .behind,
+    )
 
 add-left : tie.Need-add-left Inv-loop μ-loop
 add-left c = omega (arith, turn (c .before .before .before .before .before .before .before .before) .drawn)
@@ -83,13 +96,20 @@ pack-requires : tie.Need-pack-requires Inv-loop μ-loop
 pack-requires c κs = omega (arith, c .before .before .loop .inv .0 .drawn)
 
 mul-slots : tie.Need-mul-slots Inv-loop μ-loop
-mul-slots c = omega (arith, put-room (c .before .before .before .loop .inv .0) (omega (arith, c .before .before .before .loop .inv .0 .drawn .sizes)) (c .before .if1 .taken))
+mul-slots c =
+    let l = c .before .before .before .loop in
+    omega (arith, put-room (l .inv .0) (omega (arith, l .inv .0 .drawn .sizes)) (c .before .if1 .taken))
 
 slice-write-slots : tie.Need-slice-write-slots Inv-loop μ-loop
-slice-write-slots c = put-room (c .before .before .before .loop .inv .0) (omega (arith, c .before .before .before .loop .inv .0 .drawn .sizes)) (c .before .if1 .taken)
+slice-write-slots c =
+    let l = c .before .before .before .loop in
+    put-room (l .inv .0) (omega (arith, l .inv .0 .drawn .sizes)) (c .before .if1 .taken)
 
 same-length : tie.Need-same-length Inv-loop μ-loop
 same-length c = simp length-set (omega arith)
 
 pub write-pieces-spec : {M : Type 1} → statement M
-write-pieces-spec = tie.close (tie.spec Inv-loop μ-loop add-right loop-holds (λ c. search needs) area-requires sub-place div-place cast-before sub-after write-run-requires mul-d add-d sub-right add-write-run write-run-requires-2 add-left loop-less loop-again pack-requires mul-slots slice-write-slots same-length returns (λ c. search needs) returns-2)
+write-pieces-spec =
+    tie.close (tie.spec Inv-loop μ-loop add-right loop-holds (λ c. search needs) area-requires sub-place div-place cast-before sub-after
+    write-run-requires mul-d add-d sub-right add-write-run write-run-requires-2 add-left loop-less loop-again pack-requires mul-slots
+    slice-write-slots same-length returns (λ c. search needs) returns-2)

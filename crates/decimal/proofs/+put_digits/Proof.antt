@@ -24,15 +24,22 @@ abbrev put-digits-below : ℕ → In 1 put-digits-kinds.ps
 put-digits-below t = and 1 put-digits-kinds.ps (falls 1 put-digits-kinds.ps _<_ μ-put-digits t) put-digits.Pre
 
 pub +put-digits-spec : {M : Type 1} → statement M
-+put-digits-spec = close μ-put-digits λ t. put-digits-lts.spec (digit-reads.Asked, digit-reads.Learnt, put-reads.Asked, put-reads.Learnt, put-digits-below t, put-digits.Post) (put-digits-at t) put-digits.Post
-    (λ c. digits-none (c .before .before .args .places) (c .before .before .args .n) (c .before .before .args .at) (c .before .before .args .out .now) (c .if1 .taken))
-    (λ c κs. search needs)
-    (λ c κs. search needs)
-    (λ c. search needs)
-    (λ c. digits-last (c .before .before .before .before .before .before .before .before .args .places) (c .before .before .before .before .before .before .before .before .args .n) (c .before .before .before .before .before .before .if1 .left) (c .before .before .before .before .before .if2 .taken) (c .before .before .before .digit .ensures) (c .before .before .put .ensures))
-    (λ c. search needs)
-    (λ c κs. (omega arith, omega arith))
-    (λ c κs. search needs)
-    (λ c κs. omega (arith, digits-end _ _ (c .before .before .before .before .put-digits .ensures)))
-    (λ c. search needs)
-    (λ c. digits-more (c .before .before .before .before .before .before .before .before .before .before .before .before .args .places) (c .before .before .before .before .before .before .before .before .before .before .before .before .args .n) (c .before .before .before .before .before .before .before .before .before .before .if1 .left) (c .before .before .before .before .before .before .before .before .before .if2 .left) (c .before .before .before .digit2 .ensures) (c .before .before .before .before .before .before .before .put-digits .ensures) (c .before .before .put2 .ensures))
++put-digits-spec =
+    close μ-put-digits λ t. put-digits-lts.spec (
+      digit-reads.Asked,
+      digit-reads.Learnt,
+      put-reads.Asked,
+      put-reads.Learnt,
+      put-digits-below t,
+      put-digits.Post,
+    ) (put-digits-at t) put-digits.Post (λ c. digits-none (c .before .before .args .places) (c .before .before .args .n) (c .before
+    .before .args .at) (c .before .before .args .out .now) (c .if1 .taken)) (λ c κs. search needs) (λ c κs. search needs) (λ c. search needs) (λ c.
+    digits-last (c .before .before .before .before .before .before .before .before .args .places) (c .before .before .before .before .before .before
+    .before .before .args .n) (c .before .before .before .before .before .before .if1 .left) (c .before .before .before .before .before .if2 .taken)
+    (c .before .before .before .digit .ensures) (c .before .before .put .ensures)) (λ c. search needs) (λ c κs. (omega arith, omega arith))
+    (λ c κs. search needs) (λ c κs. omega (arith, digits-end _ _ (c .before .before .before .before .put-digits .ensures))) (λ c. search needs) (λ
+    c. digits-more (c .before .before .before .before .before .before .before .before .before .before .before .before .args .places) (c .before
+    .before .before .before .before .before .before .before .before .before .before .before .args .n) (c .before .before .before .before .before
+    .before .before .before .before .before .if1 .left) (c .before .before .before .before .before .before .before .before .before .if2 .left) (c
+    .before .before .before .digit2 .ensures) (c .before .before .before .before .before .before .before .put-digits .ensures) (c .before .before
+    .put2 .ensures))

@@ -21,26 +21,31 @@ loop-holds c = (search needs, rectangle-none)
 mul-from : tie.Need-mul-from Inv-loop μ-loop
 mul-from c =
     let a = c .before .before .before .args in
-    let f = row-fits (a .width) (length (a .raster .now)) (a .column) (a .row) (a .side) (c .before .loop .y) (omega arith) (omega arith) (omega arith) (omega arith) (omega arith) in
+    let f = row-fits (a .width) (length (a .raster .now)) (a .column) (a .row) (a .side) (c .before .loop .y) (omega arith) (omega arith) (omega
+    arith) (omega arith) (omega arith) in
     omega (arith, f .small)
 
 add-from-2 : tie.Need-add-from-2 Inv-loop μ-loop
 add-from-2 c =
     let a = c .before .before .before .args in
-    let f = row-fits (a .width) (length (a .raster .now)) (a .column) (a .row) (a .side) (c .before .loop .y) (omega arith) (omega arith) (omega arith) (omega arith) (omega arith) in
+    let f = row-fits (a .width) (length (a .raster .now)) (a .column) (a .row) (a .side) (c .before .loop .y) (omega arith) (omega arith) (omega
+    arith) (omega arith) (omega arith) in
     omega (arith, f .small)
 
 add-run : tie.Need-add-run Inv-loop μ-loop
 add-run c =
     let a = c .before .before .before .before .args in
-    let f = row-fits (a .width) (length (a .raster .now)) (a .column) (a .row) (a .side) (c .before .before .loop .y) (omega arith) (omega arith) (omega arith) (omega arith) (omega arith) in
+    let f = row-fits (a .width) (length (a .raster .now)) (a .column) (a .row) (a .side) (c .before .before .loop .y) (omega arith) (omega arith)
+    (omega arith) (omega arith) (omega arith) in
     omega (arith, f .small)
 
 run-requires : tie.Need-run-requires Inv-loop μ-loop
 run-requires c κs =
     let a = c .before .before .before .before .args in
-    let f = row-fits (a .width) (length (a .raster .now)) (a .column) (a .row) (a .side) (c .before .before .loop .y) (omega arith) (omega arith) (omega arith) (omega arith) (omega arith) in
-    omega (arith, f .within, c .before .before .loop .inv .1 .long)
+    let l = c .before .before .loop in
+    let f = row-fits (a .width) (length (a .raster .now)) (a .column) (a .row) (a .side) (l .y) (omega arith) (omega arith) (omega arith) (omega
+    arith) (omega arith) in
+    omega (arith, f .within, l .inv .1 .long)
 
 loop-again : tie.Need-loop-again Inv-loop μ-loop
 loop-again c = (search needs, rectangle-more (omega arith) (c .before .before .before .before .before .loop .inv .1) (c .before .before .run .ensures))
@@ -49,4 +54,6 @@ returns : tie.Need-returns Inv-loop μ-loop
 returns c = let e : c .before .loop .y ≡ c .before .before .before .args .side = omega arith in rw e at (c .before .loop .inv .1)
 
 pub square-spec : {M : Type 1} → statement M
-square-spec = tie.close (tie.spec Inv-loop μ-loop loop-holds (λ c. search needs) mul-from add-from-2 add-run run-requires (λ c. search needs) (λ c. search needs) loop-again (λ c. search needs) returns)
+square-spec =
+    tie.close (tie.spec Inv-loop μ-loop loop-holds (λ c. search needs) mul-from add-from-2 add-run run-requires (λ c. search needs)
+    (λ c. search needs) loop-again (λ c. search needs) returns)

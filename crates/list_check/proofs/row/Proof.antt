@@ -21,19 +21,69 @@ returns-2 c = simp (sym (c .before .before .before .area .ensures), ne-eqb _ _ (
 
 returns-3 : tie.Need-returns-3
 unfolding nextRow joins aligned if
-returns-3 c = simp (sym (c .before .before .before .before .before .area .ensures), ne-eqb _ _ (c .before .before .before .before .if1 .left), lt-ltb 0 (c .before .before .before .before .before .before .args .ahead .row) (omega (arith, c .before .before .if2 .left)), ne-eqb _ _ (c .if3 .taken))
+returns-3 c =
+    let area = c .before .before .before .before .before .area in
+    let if1 = c .before .before .before .before .if1 in
+    let a = c .before .before .before .before .before .before .args in
+    simp (
+      sym (area .ensures),
+      ne-eqb _ _ (if1 .left),
+      lt-ltb 0 (a .ahead .row) (omega (arith, c .before .before .if2 .left)),
+      ne-eqb _ _
+          (c .if3 .taken),
+    )
 
 returns-4 : tie.Need-returns-4
 unfolding nextRow joins aligned if
-returns-4 c = simp (sym (c .before .before .before .before .before .before .before .area .ensures), ne-eqb _ _ (c .before .before .before .before .before .before .if1 .left), lt-ltb 0 (c .before .before .before .before .before .before .before .before .args .ahead .row) (omega (arith, c .before .before .before .before .if2 .left)), eq-eqb _ _ (c .before .before .if3 .left), ne-eqb _ _ (c .if4 .taken))
+returns-4 c =
+    let area = c .before .before .before .before .before .before .before .area in
+    let if1 = c .before .before .before .before .before .before .if1 in
+    let a = c .before .before .before .before .before .before .before .before .args in
+    let if2 = c .before .before .before .before .if2 in
+    simp (
+      sym (area .ensures),
+      ne-eqb _ _ (if1 .left),
+      lt-ltb 0 (a .ahead .row) (omega (arith, if2 .left)),
+      eq-eqb _ _ (c .before .before .if3 .left),
+      ne-eqb _ _ (c .if4 .taken),
+    )
 
 returns-5 : tie.Need-returns-5
 unfolding nextRow joins aligned if
-returns-5 c = simp (sym (c .before .before .before .before .before .before .before .before .before .area .ensures), ne-eqb _ _ (c .before .before .before .before .before .before .before .before .if1 .left), lt-ltb 0 (c .before .before .before .before .before .before .before .before .before .before .args .ahead .row) (omega (arith, c .before .before .before .before .before .before .if2 .left)), eq-eqb _ _ (c .before .before .before .before .if3 .left), eq-eqb _ _ (c .before .before .if4 .left), ne-eqb _ _ (c .if5 .taken))
+returns-5 c =
+    let area = c .before .before .before .before .before .before .before .before .before .area in
+    let if1 = c .before .before .before .before .before .before .before .before .if1 in
+    let a = c .before .before .before .before .before .before .before .before .before .before .args in
+    let if2 = c .before .before .before .before .before .before .if2 in
+    let if3 = c .before .before .before .before .if3 in
+    simp (
+      sym (area .ensures),
+      ne-eqb _ _ (if1 .left),
+      lt-ltb 0 (a .ahead .row) (omega (arith, if2 .left)),
+      eq-eqb _ _ (if3 .left),
+      eq-eqb _ _
+          (c .before .before .if4 .left),
+      ne-eqb _ _ (c .if5 .taken),
+    )
 
 returns-6 : tie.Need-returns-6
 unfolding nextRow joins aligned if
-returns-6 c = simp (sym (c .before .before .before .before .before .before .before .before .before .before .area .ensures), ne-eqb _ _ (c .before .before .before .before .before .before .before .before .before .if1 .left), lt-ltb 0 (c .before .before .before .before .before .before .before .before .before .before .before .args .ahead .row) (omega (arith, c .before .before .before .before .before .before .before .if2 .left)), eq-eqb _ _ (c .before .before .before .before .before .if3 .left), eq-eqb _ _ (c .before .before .before .if4 .left), eq-eqb _ _ (c .before .if5 .left))
+returns-6 c =
+    let area = c .before .before .before .before .before .before .before .before .before .before .area in
+    let if1 = c .before .before .before .before .before .before .before .before .before .if1 in
+    let a = c .before .before .before .before .before .before .before .before .before .before .before .args in
+    let if2 = c .before .before .before .before .before .before .before .if2 in
+    let if3 = c .before .before .before .before .before .if3 in
+    let if4 = c .before .before .before .if4 in
+    simp (
+      sym (area .ensures),
+      ne-eqb _ _ (if1 .left),
+      lt-ltb 0 (a .ahead .row) (omega (arith, if2 .left)),
+      eq-eqb _ _ (if3 .left),
+      eq-eqb _ _
+          (if4 .left),
+      eq-eqb _ _ (c .before .if5 .left),
+    )
 
 rem-if1 : tie.Need-rem-if1
 rem-if1 c = omega (arith, area-pos (c .before .args .size + 1))

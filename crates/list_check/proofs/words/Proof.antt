@@ -26,15 +26,19 @@ returns c =
     let l = c .before .before .before .before .loop in
     let g = l .inv .1 in
     let k = length-take-le (a .tiles) (a .slots .now) (omega arith) in
-    going-stop _ _ (l .i) (omega arith) g (getD (a .slots .now) (l .i) 0) (getD-take (a .tiles) (a .slots .now) (l .i) 0 (omega arith)) (c .before .step .ensures (g .seen) (g .knows)) (c .if1 .taken)
+    going-stop _ _ (l .i) (omega arith) g (getD (a .slots .now) (l .i) 0) (getD-take (a .tiles) (a .slots .now) (l .i) 0 (omega arith))
+    (c .before .step .ensures (g .seen) (g .knows)) (c .if1 .taken)
 
 loop-again : tie.Need-loop-again Inv-loop μ-loop
 loop-again c =
     let a = c .before .before .before .before .before .before .before .before .args in
     let l = c .before .before .before .before .before .loop in
     let g = l .inv .1 in
-    let k = length-take-le (a .tiles) (a .slots .now) (omega arith) in
-    (search needs, going-on _ _ (l .i) (omega arith) g (getD (a .slots .now) (l .i) 0) (getD-take (a .tiles) (a .slots .now) (l .i) 0 (omega arith)) (c .before .before .step .ensures (g .seen) (g .knows)) (c .before .if1 .left))
+    let k = length-take-le (a .tiles) (a .slots .now) (omega arith) in (
+      search needs,
+      going-on _ _ (l .i) (omega arith) g (getD (a .slots .now) (l .i) 0) (getD-take (a .tiles) (a .slots .now) (l .i) 0 (omega arith))
+          (c .before .before .step .ensures (g .seen) (g .knows)) (c .before .if1 .left),
+    )
 
 returns-2 : tie.Need-returns-2 Inv-loop μ-loop
 returns-2 c =
@@ -44,4 +48,6 @@ returns-2 c =
     going-end _ _ (l .i) (omega arith) (l .inv .1)
 
 pub words-spec : {M : Type 1} → statement M
-words-spec = tie.close (tie.spec Inv-loop μ-loop (λ c κs. search needs) loop-holds (λ c. search needs) (λ c. search needs) step-requires returns (λ c. search needs) (λ c. search needs) loop-again returns-2)
+words-spec =
+    tie.close (tie.spec Inv-loop μ-loop (λ c κs. search needs) loop-holds (λ c. search needs) (λ c. search needs) step-requires returns
+    (λ c. search needs) (λ c. search needs) loop-again returns-2)

@@ -18,22 +18,42 @@ loop-holds : tie.Need-loop-holds Inv-loop μ-loop
 loop-holds c = let a = c .before .before .args in read-none (a .size) (a .account) (a .list .now) (a .at) (a .count) (a .corner)
 
 returns : tie.Need-returns Inv-loop μ-loop
-returns c = read-other (c .before .before .before .before .loop .inv) (omega arith) (omega arith) _ refl (λ e. c .if1 .taken (c .before .corner .ensures ∙ ap (λ (t : Tile). t .corner) e))
+returns c =
+    let l = c .before .before .before .before .loop in
+    read-other (l .inv) (omega arith) (omega arith) _ refl (λ e. c .if1 .taken (c .before .corner .ensures ∙ ap (λ (t : Tile). t .corner) e))
 
 returns-2 : tie.Need-returns-2 Inv-loop μ-loop
-returns-2 c = read-other (c .before .before .before .before .before .before .loop .inv) (omega arith) (omega arith) _ refl (λ e. c .if2 .taken (c .before .size .ensures ∙ ap (λ (t : Tile). t .size) e))
+returns-2 c =
+    let l = c .before .before .before .before .before .before .loop in
+    read-other (l .inv) (omega arith) (omega arith) _ refl (λ e. c .if2 .taken (c .before .size .ensures ∙ ap (λ (t : Tile). t .size) e))
 
 returns-3 : tie.Need-returns-3 Inv-loop μ-loop
-returns-3 c = read-other (c .before .before .before .before .before .before .before .before .loop .inv) (omega arith) (omega arith) _ refl (λ e. c .if3 .taken (c .before .account .ensures ∙ ap (λ (t : Tile). t .account) e))
+returns-3 c =
+    let l = c .before .before .before .before .before .before .before .before .loop in
+    read-other (l .inv) (omega arith) (omega arith) _ refl (λ e. c .if3 .taken (c .before .account .ensures ∙ ap (λ (t : Tile). t .account) e))
 
 add-x : tie.Need-add-x Inv-loop μ-loop
-add-x c = omega (arith, along-room (c .before .before .before .before .before .before .before .before .loop .inv .along) (c .before .before .before .before .before .before .before .loop-test .taken), c .before .before .before .before .before .before .before .before .before .area .ensures)
+add-x c =
+    let l = c .before .before .before .before .before .before .before .before .loop in
+    let loop-test = c .before .before .before .before .before .before .before .loop-test in
+    let area = c .before .before .before .before .before .before .before .before .before .area in
+    omega (arith, along-room (l .inv .along) (loop-test .taken), area .ensures)
 
 loop-again : tie.Need-loop-again Inv-loop μ-loop
-loop-again c = rw (c .before .before .before .before .before .before .before .before .before .area .ensures) (read-more (c .before .before .before .before .before .before .before .before .loop .inv) (omega arith) (omega arith) _ refl (sym (c .before .before .before .before .before .corner .ensures) ∙ c .before .before .before .before .if1 .left) (sym (c .before .before .before .size .ensures) ∙ c .before .before .if2 .left) (sym (c .before .account .ensures) ∙ c .if3 .left))
+loop-again c =
+    let area = c .before .before .before .before .before .before .before .before .before .area in
+    let l = c .before .before .before .before .before .before .before .before .loop in
+    let corner = c .before .before .before .before .before .corner in
+    let if1 = c .before .before .before .before .if1 in
+    let size = c .before .before .before .size in
+    rw (area .ensures) (read-more (l .inv) (omega arith) (omega arith) _ refl (sym (corner .ensures) ∙ if1 .left) (sym (size .ensures) ∙
+    c .before .before .if2 .left) (sym (c .before .account .ensures) ∙ c .if3 .left))
 
 returns-4 : tie.Need-returns-4 Inv-loop μ-loop
 returns-4 c = read-all (c .before .loop .inv) (c .loop-test .left)
 
 pub is-run-spec : {M : Type 1} → statement M
-is-run-spec = tie.close (tie.spec Inv-loop μ-loop (λ c κs. search needs) loop-holds (λ c. search needs) (λ c. search needs) (λ c. search needs) (λ c κs. search needs) returns (λ c κs. search needs) returns-2 (λ c κs. search needs) returns-3 add-x (λ c. search needs) (λ c. search needs) loop-again returns-4)
+is-run-spec =
+    tie.close (tie.spec Inv-loop μ-loop (λ c κs. search needs) loop-holds (λ c. search needs) (λ c. search needs) (λ c. search needs)
+    (λ c κs. search needs) returns (λ c κs. search needs) returns-2 (λ c κs. search needs) returns-3 add-x (λ c. search needs) (λ c. search needs)
+    loop-again returns-4)

@@ -12,7 +12,9 @@ use Rattle.list_run.proofs.write_run.Statement.{statement}
 use Rattle.list_run.proofs.write_run.Tie as tie
 
 abbrev Inv-loop : tie.InvT-loop
-Inv-loop slots₀ at count corner size account side x₀ j₀ slots x j = Writing size account (take at slots₀ ++ (map wordOf (tileRun size account count corner) ++ drop (at + count) slots₀)) slots at count corner j x × (length slots ≡ length slots₀)
+Inv-loop slots₀ at count corner size account side x₀ j₀ slots x j =
+    Writing size account (take at slots₀ ++ (map wordOf (tileRun size account count corner) ++ drop (at + count) slots₀)) slots at count corner j x
+    × (length slots ≡ length slots₀)
 
 abbrev μ-loop : tie.MeasureT-loop
 μ-loop slots₀ at count corner size account side x₀ j₀ slots x j = count - j
@@ -27,10 +29,14 @@ add-x : tie.Need-add-x Inv-loop μ-loop
 add-x c = omega (arith, along-room (c .before .before .loop .inv .0 .along) (c .before .loop-test .taken), c .before .before .before .area .ensures)
 
 loop-again : tie.Need-loop-again Inv-loop μ-loop
-loop-again c = (rw (c .pack .ensures, c .before .before .before .area .ensures) (write-more (c .before .before .loop .inv .0) (omega arith) (omega arith)), simp length-set (omega arith))
+loop-again c =
+    let area = c .before .before .before .area in
+    (rw (c .pack .ensures, area .ensures) (write-more (c .before .before .loop .inv .0) (omega arith) (omega arith)), simp length-set (omega arith))
 
 returns : tie.Need-returns Inv-loop μ-loop
 returns c = write-all (c .before .loop .inv .0) (c .loop-test .left)
 
 pub write-run-spec : {M : Type 1} → statement M
-write-run-spec = tie.close (tie.spec Inv-loop μ-loop (λ c κs. search needs) loop-holds pack-requires (λ c. search needs) (λ c. search needs) (λ c. search needs) add-x (λ c. search needs) (λ c. search needs) loop-again (λ c. search needs) returns)
+write-run-spec =
+    tie.close (tie.spec Inv-loop μ-loop (λ c κs. search needs) loop-holds pack-requires (λ c. search needs) (λ c. search needs) (λ c. search needs)
+    add-x (λ c. search needs) (λ c. search needs) loop-again (λ c. search needs) returns)

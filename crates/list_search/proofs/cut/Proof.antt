@@ -9,7 +9,9 @@ use Rattle.list_search.proofs.cut.Statement.{statement}
 use Rattle.list_search.proofs.cut.Tie as tie
 
 abbrev Inv-loop : tie.InvT-loop
-Inv-loop slots from to z low₀ high₀ low high = (from ≤ low) × (low ≤ high) × (high ≤ to) × (from < low → tileOf (getD slots (low - 1) 0) .corner < z) × (high < to → z ≤ tileOf (getD slots high 0) .corner)
+Inv-loop slots from to z low₀ high₀ low high =
+    (from ≤ low) × (low ≤ high) × (high ≤ to) × (from < low → tileOf (getD slots (low - 1) 0) .corner < z)
+    × (high < to → z ≤ tileOf (getD slots high 0) .corner)
 
 abbrev μ-loop : tie.MeasureT-loop
 μ-loop slots from to z low₀ high₀ low high = high - low
@@ -35,4 +37,6 @@ returns c =
     record { from = omega arith; to = omega arith; ahead = l .inv .3; behind = rw e (l .inv .4) }
 
 pub cut-spec : {M : Type 1} → statement M
-cut-spec = tie.close (tie.spec Inv-loop μ-loop loop-holds (λ c. search needs) (λ c. search needs) (λ c. search needs) (λ c. search needs) (λ c κs. search needs) (λ c. search needs) (λ c. search needs) loop-again (λ c. search needs) loop-again-2 returns)
+cut-spec =
+    tie.close (tie.spec Inv-loop μ-loop loop-holds (λ c. search needs) (λ c. search needs) (λ c. search needs) (λ c. search needs)
+    (λ c κs. search needs) (λ c. search needs) (λ c. search needs) loop-again (λ c. search needs) loop-again-2 returns)

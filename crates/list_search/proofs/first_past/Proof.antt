@@ -9,7 +9,9 @@ use Rattle.list_search.proofs.first_past.Statement.{statement}
 use Rattle.list_search.proofs.first_past.Tie as tie
 
 abbrev Inv-loop : tie.InvT-loop
-Inv-loop list from x a₀ b₀ a b = (from ≤ a) × (a ≤ b) × (b ≤ length list) × (from < a → stop (tileOf (getD list (a - 1) 0)) ≤ x) × (b < length list → x < stop (tileOf (getD list b 0)))
+Inv-loop list from x a₀ b₀ a b =
+    (from ≤ a) × (a ≤ b) × (b ≤ length list) × (from < a → stop (tileOf (getD list (a - 1) 0)) ≤ x)
+    × (b < length list → x < stop (tileOf (getD list b 0)))
 
 abbrev μ-loop : tie.MeasureT-loop
 μ-loop list from x a₀ b₀ a b = b - a
@@ -35,4 +37,6 @@ returns c =
     record { low = omega arith; high = omega arith; ahead = l .inv .3; past = rw e (l .inv .4) }
 
 pub first-past-spec : {M : Type 1} → statement M
-first-past-spec = tie.close (tie.spec Inv-loop μ-loop loop-holds (λ c. search needs) (λ c. search needs) (λ c. search needs) (λ c. search needs) (λ c κs. search needs) (λ c. search needs) (λ c. search needs) loop-again (λ c. search needs) loop-again-2 returns)
+first-past-spec =
+    tie.close (tie.spec Inv-loop μ-loop loop-holds (λ c. search needs) (λ c. search needs) (λ c. search needs) (λ c. search needs)
+    (λ c κs. search needs) (λ c. search needs) (λ c. search needs) loop-again (λ c. search needs) loop-again-2 returns)

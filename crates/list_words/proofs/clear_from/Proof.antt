@@ -11,4 +11,6 @@ returns c =
     cleared _ (a .s .now) (a .from) (omega arith) (c .before .before .clear .ensures)
 
 pub clear-from-spec : {M : Type 1} → statement M
-clear-from-spec = tie.close (tie.spec (λ c. search needs) (λ c. search needs) (λ c. search needs) (λ c. search needs) (λ c κs. search needs) (λ c. search needs) returns)
+clear-from-spec =
+    tie.close (tie.spec (λ c. search needs) (λ c. search needs) (λ c. search needs) (λ c. search needs) (λ c κs. search needs) (λ c. search needs)
+    returns)

@@ -9,7 +9,9 @@ use Rattle.listing.proofs.list_whole.Statement.{statement}
 use Rattle.listing.proofs.list_whole.Tie as tie
 
 returns : tie.Need-returns
-returns c = whole-listed (take (c .before .before .before .before .args .count) (c .before .before .before .before .args .read .now)) (c .before .before .before .before .args .out .now) _ (c .list .result) (omega arith) (c .list .ensures)
+returns c =
+    let a = c .before .before .before .before .args in
+    whole-listed (take (a .count) (a .read .now)) (a .out .now) _ (c .list .result) (omega arith) (c .list .ensures)
 
 slice-aggregate-list : tie.Need-slice-aggregate-list
 slice-aggregate-list c = sym (length-take-le (c .before .before .args .count) (c .before .before .args .read .now) (omega arith))

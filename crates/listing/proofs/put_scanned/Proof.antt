@@ -13,13 +13,28 @@ use Rattle.listing.proofs.put_scanned.Tie as tie
 
 returns : tie.Need-returns
 unfolding bedLine stopLine
-returns c = written-then (c .before .before .before .before .before .before .before .before .before .before .before .before .put-pair .ensures) (written-then (c .before .before .before .before .before .before .before .before .put-tiles .ensures) (c .before .before .put-pair2 .ensures))
+returns c =
+    let put-pair = c .before .before .before .before .before .before .before .before .before .before .before .before .put-pair in
+    let put-tiles = c .before .before .before .before .before .before .before .before .put-tiles in
+    written-then (put-pair .ensures) (written-then (put-tiles .ensures) (c .before .before .put-pair2 .ensures))
 
 put-tiles-requires : tie.Need-put-tiles-requires
-put-tiles-requires c κs = (omega arith, omega (arith, pairLine-most bedWord (c .before .before .before .before .before .before .before .before .before .args .order) tilesWord (c .before .before .before .before .before .before .before .before .before .args .tiles)))
+put-tiles-requires c κs =
+    let a = c .before .before .before .before .before .before .before .before .before .args in
+    (omega arith, omega (arith, pairLine-most bedWord (a .order) tilesWord (a .tiles)))
 
 put-pair-requires-2 : tie.Need-put-pair-requires-2
-put-pair-requires-2 c κs = omega (arith, pairLine-most bedWord (c .before .before .before .before .before .before .before .before .before .before .before .before .before .before .before .args .order) tilesWord (c .before .before .before .before .before .before .before .before .before .before .before .before .before .before .before .args .tiles), tileLines-most tripleMost (tilesIn (c .before .before .before .before .before .before .before .before .before .before .before .before .before .before .before .args .tiles) (c .before .before .before .before .before .before .before .before .before .before .before .before .before .before .before .args .slots .now)) (λ t i. tileLine-most t), length-tilesIn (c .before .before .before .before .before .before .before .before .before .before .before .before .before .before .before .args .tiles) (c .before .before .before .before .before .before .before .before .before .before .before .before .before .before .before .args .slots .now) (omega arith))
+put-pair-requires-2 c κs =
+    let a = c .before .before .before .before .before .before .before .before .before .before .before .before .before .before .before .args in
+    omega (
+      arith,
+      pairLine-most bedWord (a .order) tilesWord (a .tiles),
+      tileLines-most tripleMost (tilesIn (a .tiles) (a .slots .now)) (λ t i.
+          tileLine-most t),
+      length-tilesIn (a .tiles) (a .slots .now) (omega arith),
+    )
 
 pub put-scanned-spec : {M : Type 1} → statement M
-put-scanned-spec = tie.close (tie.spec (λ c. search needs) (λ c. search needs) (λ c κs. search needs) put-tiles-requires (λ c. search needs) (λ c. search needs) put-pair-requires-2 (λ c. search needs) returns)
+put-scanned-spec =
+    tie.close (tie.spec (λ c. search needs) (λ c. search needs) (λ c κs. search needs) put-tiles-requires (λ c. search needs) (λ c. search needs)
+    put-pair-requires-2 (λ c. search needs) returns)

@@ -26,10 +26,23 @@ put-word-requires : tie.Need-put-word-requires Inv-loop μ-loop
 put-word-requires c κs = omega arith
 
 loop-again : tie.Need-loop-again Inv-loop μ-loop
-loop-again c = (omega arith, lines-next (c .before .before .before .before .before .before .before .before .before .args .slots .now) (c .before .before .before .before .before .before .loop .i) (omega arith) (c .before .before .before .before .before .before .loop .inv .1) (c .before .before .put-word .ensures), omega (arith, c .before .before .put-word .ensures .stop, tileLine-most (tileOf (getD (c .before .before .before .before .before .before .before .before .before .args .slots .now) (c .before .before .before .before .before .before .loop .i) 0))))
+loop-again c =
+    let l = c .before .before .before .before .before .before .loop in
+    let a = c .before .before .before .before .before .before .before .before .before .args in
+    let put-word = c .before .before .put-word in (
+      omega arith,
+      lines-next (a .slots .now) (l .i) (omega arith) (l .inv .1) (put-word .ensures),
+      omega (
+        arith,
+        put-word .ensures .stop,
+        tileLine-most (tileOf (getD (a .slots .now) (l .i) 0)),
+      ),
+    )
 
 returns : tie.Need-returns Inv-loop μ-loop
 returns c = let e : c .before .loop .i ≡ c .before .before .before .before .args .tiles = omega arith in rw e at (c .before .loop .inv .1)
 
 pub put-tiles-spec : {M : Type 1} → statement M
-put-tiles-spec = tie.close (tie.spec Inv-loop μ-loop loop-holds (λ c. search needs) (λ c. search needs) put-word-requires (λ c. search needs) (λ c. search needs) loop-again (λ c. search needs) returns)
+put-tiles-spec =
+    tie.close (tie.spec Inv-loop μ-loop loop-holds (λ c. search needs) (λ c. search needs) put-word-requires (λ c. search needs) (λ c. search needs)
+    loop-again (λ c. search needs) returns)

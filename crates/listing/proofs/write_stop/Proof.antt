@@ -12,7 +12,11 @@ returns c = listedIn-few (c .before .before .before .before .before .before .bef
 
 returns-2 : tie.Need-returns-2
 unfolding stopLine
-returns-2 c = listedIn-fits (c .before .before .before .before .before .before .before .before .put-pair .ensures) (c .before .before .put-pair2 .ensures) (omega arith)
+returns-2 c =
+    let put-pair = c .before .before .before .before .before .before .before .before .put-pair in
+    listedIn-fits (put-pair .ensures) (c .before .before .put-pair2 .ensures) (omega arith)
 
 pub write-stop-spec : {M : Type 1} → statement M
-write-stop-spec = tie.close (tie.spec (λ c. search needs) (λ c. search needs) (λ c. search needs) (λ c κs. search needs) returns (λ c. search needs) (λ c. search needs) (λ c κs. search needs) (λ c. search needs) returns-2)
+write-stop-spec =
+    tie.close (tie.spec (λ c. search needs) (λ c. search needs) (λ c. search needs) (λ c κs. search needs) returns (λ c. search needs)
+    (λ c. search needs) (λ c κs. search needs) (λ c. search needs) returns-2)

@@ -16,7 +16,8 @@ ahead-requires c κs =
 returns : tie.Need-returns
 returns c =
     let s = c .before .before .before in
-    account-none (s .args .tiles) (s .args .slots .now) (s .pre .1) (s .args .z) (s .pre .2) (c .before .ahead .result) (c .before .ahead .ensures) (c .if1 .taken)
+    account-none (s .args .tiles) (s .args .slots .now) (s .pre .1) (s .args .z) (s .pre .2) (c .before .ahead .result) (c .before .ahead .ensures)
+    (c .if1 .taken)
 
 sub-word : tie.Need-sub-word
 sub-word c =
@@ -30,18 +31,27 @@ mul-word c =
 
 shared-slice-read-word : tie.Need-shared-slice-read-word
 shared-slice-read-word c =
+    let ahead = c .before .before .ahead in
     let s = c .before .before .before .before in
-    omega (arith, started-le (s .args .tiles) (s .args .slots .now) (s .pre .1) (s .args .z) (s .pre .2) (c .before .before .ahead .result) (c .before .before .ahead .ensures))
+    omega (arith, started-le (s .args .tiles) (s .args .slots .now) (s .pre .1) (s .args .z) (s .pre .2) (ahead .result) (ahead .ensures))
 
 returns-2 : tie.Need-returns-2
 returns-2 c =
+    let ahead = c .before .before .before .before .ahead in
+    let if1 = c .before .before .before .if1 in
     let s = c .before .before .before .before .before .before in
-    account-past (s .args .tiles) (s .args .slots .now) (s .pre .1) (s .args .z) (s .pre .2) (c .before .before .before .before .ahead .result) (c .before .before .before .before .ahead .ensures) (c .before .before .before .before .ahead .result - 1) (omega (arith, c .before .before .before .if1 .left)) (omega (arith, c .before .stop .ensures))
+    account-past (s .args .tiles) (s .args .slots .now) (s .pre .1) (s .args .z) (s .pre .2) (ahead .result) (ahead .ensures) (ahead .result - 1)
+    (omega (arith, if1 .left)) (omega (arith, c .before .stop .ensures))
 
 returns-3 : tie.Need-returns-3
 returns-3 c =
+    let ahead = c .before .before .before .before .before .ahead in
+    let if1 = c .before .before .before .before .if1 in
     let s = c .before .before .before .before .before .before .before in
-    c .account .ensures ∙ account-last (s .args .tiles) (s .args .slots .now) (s .pre .1) (s .args .z) (s .pre .2) (c .before .before .before .before .before .ahead .result) (c .before .before .before .before .before .ahead .ensures) (c .before .before .before .before .before .ahead .result - 1) (omega (arith, c .before .before .before .before .if1 .left)) (omega (arith, c .before .before .stop .ensures))
+    c .account .ensures ∙ account-last (s .args .tiles) (s .args .slots .now) (s .pre .1) (s .args .z) (s .pre .2) (ahead .result) (ahead .ensures)
+    (ahead .result - 1) (omega (arith, if1 .left)) (omega (arith, c .before .before .stop .ensures))
 
 pub account-at-spec : {M : Type 1} → statement M
-account-at-spec = tie.close (tie.spec (λ c. search needs) ahead-requires returns sub-word mul-word shared-slice-read-word (λ c κs. search needs) returns-2 (λ c κs. search needs) returns-3)
+account-at-spec =
+    tie.close (tie.spec (λ c. search needs) ahead-requires returns sub-word mul-word shared-slice-read-word (λ c κs. search needs) returns-2
+    (λ c κs. search needs) returns-3)

@@ -14,7 +14,9 @@ use Rattle.mapfile_entries.proofs.entries_good.Statement.{statement}
 use Rattle.mapfile_entries.proofs.entries_good.Tie as tie
 
 abbrev Inv-loop : tie.InvT-loop
-Inv-loop order tiles file entries section j₀ p₀ j p = (j ≤ entries) × (p ≡ 1 + 5 * j) × (entriesGood (map tileOf (wordsAt tiles file 5)) (entriesAt entries section 1) (entriesAt entries section 1) ≡ entriesGood (map tileOf (wordsAt tiles file 5)) (entriesAt entries section 1) (entriesAt (entries - j) section p))
+Inv-loop order tiles file entries section j₀ p₀ j p =
+    (j ≤ entries) × (p ≡ 1 + 5 * j)
+    × (entriesGood (map tileOf (wordsAt tiles file 5)) (entriesAt entries section 1) (entriesAt entries section 1) ≡ entriesGood (map tileOf (wordsAt tiles file 5)) (entriesAt entries section 1) (entriesAt (entries - j) section p))
 
 abbrev μ-loop : tie.MeasureT-loop
 μ-loop order tiles file entries section j₀ p₀ j p = entries - j
@@ -38,4 +40,6 @@ returns-2 c =
     entries-end _ _ _ _ (l .j) (l .p) (l .inv .2) (omega arith)
 
 pub entries-good-spec : {M : Type 1} → statement M
-entries-good-spec = tie.close (tie.spec Inv-loop μ-loop loop-holds (λ c κs. search needs) returns (λ c. search needs) (λ c. search needs) (λ c. search needs) loop-again returns-2)
+entries-good-spec =
+    tie.close (tie.spec Inv-loop μ-loop loop-holds (λ c κs. search needs) returns (λ c. search needs) (λ c. search needs) (λ c. search needs)
+    loop-again returns-2)

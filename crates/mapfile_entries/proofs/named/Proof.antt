@@ -12,7 +12,9 @@ use Rattle.mapfile_entries.proofs.named.Statement.{statement}
 use Rattle.mapfile_entries.proofs.named.Tie as tie
 
 abbrev Inv-loop : tie.InvT-loop
-Inv-loop entries section set₀ j₀ p₀ set j p = (j ≤ entries) × (p ≡ 1 + 5 * j) × Growing (λ a. ltb 0 (listed a (entriesAt entries section 1))) set (λ a. ltb 0 (listed a (entriesAt (entries - j) section p)))
+Inv-loop entries section set₀ j₀ p₀ set j p =
+    (j ≤ entries) × (p ≡ 1 + 5 * j)
+    × Growing (λ a. ltb 0 (listed a (entriesAt entries section 1))) set (λ a. ltb 0 (listed a (entriesAt (entries - j) section p)))
 
 abbrev μ-loop : tie.MeasureT-loop
 μ-loop entries section set₀ j₀ p₀ set j p = entries - j
@@ -23,7 +25,8 @@ loop-holds c = (search needs, search needs, named-start (c .before .args .entrie
 loop-again : tie.Need-loop-again Inv-loop μ-loop
 loop-again c =
     let l = c .before .before .before .loop in
-    (search needs, search needs, named-on (c .before .before .before .before .before .args .entries) (c .before .before .before .before .before .args .section .now) (l .j) (l .p) (l .inv .2) (omega arith) (c .with-entry .ensures))
+    let a = c .before .before .before .before .before .args in
+    (search needs, search needs, named-on (a .entries) (a .section .now) (l .j) (l .p) (l .inv .2) (omega arith) (c .with-entry .ensures))
 
 returns : tie.Need-returns Inv-loop μ-loop
 returns c =
@@ -31,4 +34,6 @@ returns c =
     named-end (c .before .before .before .args .entries) (c .before .before .before .args .section .now) (l .j) (l .p) (l .inv .2) (omega arith)
 
 pub named-spec : {M : Type 1} → statement M
-named-spec = tie.close (tie.spec Inv-loop μ-loop loop-holds (λ c. search needs) (λ c κs. search needs) (λ c. search needs) (λ c. search needs) (λ c. search needs) loop-again returns)
+named-spec =
+    tie.close (tie.spec Inv-loop μ-loop loop-holds (λ c. search needs) (λ c κs. search needs) (λ c. search needs) (λ c. search needs)
+    (λ c. search needs) loop-again returns)

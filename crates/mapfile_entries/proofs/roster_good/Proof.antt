@@ -12,7 +12,9 @@ returns c = simp (sym (c .before .entries-good .ensures), not-true (c .before .e
 
 returns-2 : tie.Need-returns-2
 unfolding rosterGood
-returns-2 c = simp (sym (c .before .before .entries-good .ensures), not-false (c .before .before .entries-good .result) (c .before .if1 .left)) (c .tiles-listed .ensures)
+returns-2 c =
+    let entries-good = c .before .before .entries-good in
+    simp (sym (entries-good .ensures), not-false (entries-good .result) (c .before .if1 .left)) (c .tiles-listed .ensures)
 
 pub roster-good-spec : {M : Type 1} → statement M
 roster-good-spec = tie.close (tie.spec (λ c κs. search needs) returns (λ c κs. search needs) returns-2)

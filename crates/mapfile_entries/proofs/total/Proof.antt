@@ -13,7 +13,9 @@ use Rattle.mapfile_entries.proofs.total.Statement.{statement}
 use Rattle.mapfile_entries.proofs.total.Tie as tie
 
 abbrev Inv-loop : tie.InvT-loop
-Inv-loop account order tiles file sum₀ i₀ p₀ sum i p = (i ≤ tiles) × (p ≡ 5 + 4 * i) × (sum + covered account (map tileOf (wordsAt (tiles - i) file p)) ≡ covered account (map tileOf (wordsAt tiles file 5)))
+Inv-loop account order tiles file sum₀ i₀ p₀ sum i p =
+    (i ≤ tiles) × (p ≡ 5 + 4 * i)
+    × (sum + covered account (map tileOf (wordsAt (tiles - i) file p)) ≡ covered account (map tileOf (wordsAt tiles file 5)))
 
 abbrev μ-loop : tie.MeasureT-loop
 μ-loop account order tiles file sum₀ i₀ p₀ sum i p = tiles - i
@@ -24,8 +26,12 @@ loop-holds c = (search needs, search needs, covered-start _ (c .before .args .ti
 loop-again : tie.Need-loop-again Inv-loop μ-loop
 loop-again c =
     let a = c .before .before .before .before .before .args in
-    let l = c .before .before .before .loop in
-    (search needs, search needs, covered-on (a .account) (a .tiles) (a .file .now) (l .i) (l .p) (l .sum) (l .inv .2) (c .share .result) (c .before .word-at .result) (omega arith) (c .before .word-at .ensures) (c .share .ensures))
+    let l = c .before .before .before .loop in (
+      search needs,
+      search needs,
+      covered-on (a .account) (a .tiles) (a .file .now) (l .i) (l .p) (l .sum) (l .inv .2) (c .share .result)
+          (c .before .word-at .result) (omega arith) (c .before .word-at .ensures) (c .share .ensures),
+    )
 
 returns : tie.Need-returns Inv-loop μ-loop
 returns c =
@@ -37,7 +43,15 @@ add-sum : tie.Need-add-sum Inv-loop μ-loop
 add-sum c =
     let a = c .before .before .before .before .before .args in
     let l = c .before .before .before .loop in
-    omega (arith, covered-fits (a .account) (c .before .before .before .before .before .pre .0) (c .before .before .before .before .before .pre .2), covered-on (a .account) (a .tiles) (a .file .now) (l .i) (l .p) (l .sum) (l .inv .2) (c .share .result) (c .before .word-at .result) (omega arith) (c .before .word-at .ensures) (c .share .ensures))
+    let p = c .before .before .before .before .before .pre in
+    omega (
+      arith,
+      covered-fits (a .account) (p .0) (p .2),
+      covered-on (a .account) (a .tiles) (a .file .now) (l .i) (l .p) (l .sum) (l .inv .2)
+          (c .share .result) (c .before .word-at .result) (omega arith) (c .before .word-at .ensures) (c .share .ensures),
+    )
 
 pub total-spec : {M : Type 1} → statement M
-total-spec = tie.close (tie.spec Inv-loop μ-loop loop-holds (λ c κs. search needs) (λ c κs. search needs) add-sum (λ c. search needs) (λ c. search needs) (λ c. search needs) loop-again returns)
+total-spec =
+    tie.close (tie.spec Inv-loop μ-loop loop-holds (λ c κs. search needs) (λ c κs. search needs) add-sum (λ c. search needs) (λ c. search needs)
+    (λ c. search needs) loop-again returns)

@@ -17,7 +17,9 @@ area-requires c κs = omega (arith, c .size .ensures, tileOf-size (c .before .be
 
 returns-2 : tie.Need-returns-2
 unfolding if
-returns-2 c = simp (sym (c .before .before .before .account .ensures), eq-eqb _ _ (c .before .before .if1 .left), sym (c .before .size .ensures)) (c .area .ensures)
+returns-2 c =
+    let account = c .before .before .before .account in
+    simp (sym (account .ensures), eq-eqb _ _ (c .before .before .if1 .left), sym (c .before .size .ensures)) (c .area .ensures)
 
 pub share-spec : {M : Type 1} → statement M
 share-spec = tie.close (tie.spec (λ c κs. search needs) returns (λ c κs. search needs) area-requires returns-2)

@@ -7,7 +7,10 @@ use Rattle.mapfile_sections.proofs.pixels_of.Statement.{statement}
 use Rattle.mapfile_sections.proofs.pixels_of.Tie as tie
 
 returns : tie.Need-returns
-returns c = none-covered (tilesIn (c .before .before .before .args .tiles) (c .before .before .before .args .slots .now)) (c .before .before .before .pre .1) (c .before .before .before .args .account) (c .before .before .before .pre .0) (c .before .has .ensures) (not-true _ (c .if1 .taken))
+returns c =
+    let a = c .before .before .before .args in
+    let p = c .before .before .before .pre in
+    none-covered (tilesIn (a .tiles) (a .slots .now)) (p .1) (a .account) (p .0) (c .before .has .ensures) (not-true _ (c .if1 .taken))
 
 pub pixels-of-spec : {M : Type 1} → statement M
 pixels-of-spec = tie.close (tie.spec (λ c κs. search needs) returns (λ c κs. search needs) (λ c. search needs))

@@ -14,7 +14,9 @@ use Rattle.mapfile_sections.proofs.put_entries.Statement.{statement}
 use Rattle.mapfile_sections.proofs.put_entries.Tie as tie
 
 abbrev Inv-loop : tie.InvT-loop
-Inv-loop order tiles slots at file₀ set p₀ account₀ file p account = (account ≤ suc highestAccount) × (length file ≡ length file₀) × (p + 5 * length (rosterAt (tilesIn tiles slots) account) ≤ length file₀) × (sets file₀ at (entriesBytes (rosterOf (tilesIn tiles slots))) ≡ sets file p (entriesBytes (rosterAt (tilesIn tiles slots) account)))
+Inv-loop order tiles slots at file₀ set p₀ account₀ file p account =
+    (account ≤ suc highestAccount) × (length file ≡ length file₀) × (p + 5 * length (rosterAt (tilesIn tiles slots) account) ≤ length file₀)
+    × (sets file₀ at (entriesBytes (rosterOf (tilesIn tiles slots))) ≡ sets file p (entriesBytes (rosterAt (tilesIn tiles slots) account)))
 
 abbrev μ-loop : tie.MeasureT-loop
 μ-loop order tiles slots at file₀ set p₀ account₀ file p account = suc highestAccount - account
@@ -26,11 +28,20 @@ loop-again : tie.Need-loop-again Inv-loop μ-loop
 loop-again c =
     let a = c .before .before .before .before .before .before .before .before .before .before .args in
     let l = c .before .before .before .before .before .before .loop in
+    let put-entry = c .before .before .put-entry in
+    let pixels-of = c .before .before .before .before .pixels-of in
     let ts = tilesIn (a .tiles) (a .slots .now) in (
       search needs,
       search needs,
-      omega (arith, l .inv .2, c .before .before .put-entry .ensures .0, entries-room ts (l .account) (c .before .before .before .before .pixels-of .result) (omega arith) (c .before .before .before .before .pixels-of .ensures)),
-      entries-on ts (l .account) (l .p) (l .file) (l .inv .3) _ (c .before .before .before .before .pixels-of .result) (c .before .before .put-entry .result) (omega arith) (c .before .before .before .before .pixels-of .ensures) (c .before .before .put-entry .ensures .0) (c .before .before .put-entry .ensures .1),
+      omega (
+        arith,
+        l .inv .2,
+        put-entry .ensures .0,
+        entries-room ts (l .account) (pixels-of .result) (omega arith)
+            (pixels-of .ensures),
+      ),
+      entries-on ts (l .account) (l .p) (l .file) (l .inv .3) _ (pixels-of .result) (put-entry .result) (omega arith)
+          (pixels-of .ensures) (put-entry .ensures .0) (put-entry .ensures .1),
     )
 
 returns : tie.Need-returns Inv-loop μ-loop
@@ -43,7 +54,14 @@ put-entry-requires : tie.Need-put-entry-requires Inv-loop μ-loop
 put-entry-requires c κs =
     let a = c .before .before .before .before .before .before .before .args in
     let l = c .before .before .before .loop in
-    omega (arith, l .inv .2, entries-room (tilesIn (a .tiles) (a .slots .now)) (l .account) (c .before .pixels-of .result) (omega arith) (c .before .pixels-of .ensures))
+    omega (
+      arith,
+      l .inv .2,
+      entries-room (tilesIn (a .tiles) (a .slots .now)) (l .account) (c .before .pixels-of .result) (omega arith)
+          (c .before .pixels-of .ensures),
+    )
 
 pub put-entries-spec : {M : Type 1} → statement M
-put-entries-spec = tie.close (tie.spec Inv-loop μ-loop (λ c κs. search needs) loop-holds (λ c κs. search needs) put-entry-requires (λ c. search needs) (λ c. search needs) loop-again (λ c. search needs) returns)
+put-entries-spec =
+    tie.close (tie.spec Inv-loop μ-loop (λ c κs. search needs) loop-holds (λ c κs. search needs) put-entry-requires (λ c. search needs)
+    (λ c. search needs) loop-again (λ c. search needs) returns)

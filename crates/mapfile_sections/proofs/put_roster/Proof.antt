@@ -15,16 +15,23 @@ use Rattle.mapfile_sections.proofs.put_roster.Tie as tie
 returns : tie.Need-returns
 returns c =
     let a = c .before .before .before .before .before .before .args in
-    c .before .before .put-entries .ensures ∙ ap (λ (k : ℕ). sets (set (a .section .now) 0 k) 1 (entriesBytes (rosterOf (tilesIn (a .tiles) (a .slots .now))))) (c .before .before .before .before .before .before .pre .3)
+    let p = c .before .before .before .before .before .before .pre in
+    c .before .before .put-entries .ensures ∙ ap (λ (k : ℕ). sets (set (a .section .now) 0 k) 1 (entriesBytes (rosterOf (tilesIn (a .tiles)
+    (a .slots .now))))) (p .3)
 
 cast-section : tie.Need-cast-section
 cast-section c = omega (arith, c .before .before .pre .3, rosterOf-few (tilesIn (c .before .before .args .tiles) (c .before .before .args .slots .now)))
 
 put-entries-requires : tie.Need-put-entries-requires
-put-entries-requires c κs = (c .before .before .before .pre .0, c .before .before .before .pre .1, c .before .before .before .pre .2, omega (arith, c .before .before .before .pre .3, length-set (c .before .before .before .args .section .now) 0 (c .before .before .before .args .accounts)))
+put-entries-requires c κs =
+    let p = c .before .before .before .pre in
+    let a = c .before .before .before .args in
+    (p .0, p .1, p .2, omega (arith, p .3, length-set (a .section .now) 0 (a .accounts)))
 
 same-length : tie.Need-same-length
-same-length c = omega (arith, length-set (c .before .before .before .before .before .before .args .section .now) 0 (c .before .before .before .before .before .before .args .accounts))
+same-length c =
+    let a = c .before .before .before .before .before .before .args in
+    omega (arith, length-set (a .section .now) 0 (a .accounts))
 
 pub put-roster-spec : {M : Type 1} → statement M
 put-roster-spec = tie.close (tie.spec cast-section (λ c. search needs) put-entries-requires same-length returns)

@@ -16,7 +16,8 @@ use Rattle.mapfile_sections.proofs.tiled.Statement.{statement}
 use Rattle.mapfile_sections.proofs.tiled.Tie as tie
 
 abbrev Inv-loop : tie.InvT-loop
-Inv-loop tiles slots set₀ i₀ set i = (i ≤ tiles) × Growing (λ a. ltb 0 (covered a (tilesIn tiles slots))) set (λ a. ltb 0 (covered a (map tileOf (drop i (take tiles slots)))))
+Inv-loop tiles slots set₀ i₀ set i =
+    (i ≤ tiles) × Growing (λ a. ltb 0 (covered a (tilesIn tiles slots))) set (λ a. ltb 0 (covered a (map tileOf (drop i (take tiles slots)))))
 
 abbrev μ-loop : tie.MeasureT-loop
 μ-loop tiles slots set₀ i₀ set i = tiles - i
@@ -28,8 +29,11 @@ loop-again : tie.Need-loop-again Inv-loop μ-loop
 loop-again c =
     let a = c .before .before .before .before .before .before .args in
     let l = c .before .before .before .before .loop in
-    let k = length-take-le (a .tiles) (a .slots .now) (omega arith) in
-    (search needs, tiled-on (take (a .tiles) (a .slots .now)) (l .i) (l .inv .1) (c .before .account .result) (getD (a .slots .now) (l .i) 0) (omega arith) (getD-take (a .tiles) (a .slots .now) (l .i) 0 (omega arith)) (c .before .account .ensures) (c .with .ensures))
+    let k = length-take-le (a .tiles) (a .slots .now) (omega arith) in (
+      search needs,
+      tiled-on (take (a .tiles) (a .slots .now)) (l .i) (l .inv .1) (c .before .account .result) (getD (a .slots .now) (l .i) 0) (omega
+          arith) (getD-take (a .tiles) (a .slots .now) (l .i) 0 (omega arith)) (c .before .account .ensures) (c .with .ensures),
+    )
 
 returns : tie.Need-returns Inv-loop μ-loop
 returns c =
@@ -39,7 +43,12 @@ returns c =
     tiled-end (take (a .tiles) (a .slots .now)) (l .i) (l .inv .1) (omega arith)
 
 with-requires : tie.Need-with-requires Inv-loop μ-loop
-with-requires c κs = omega (arith, c .account .ensures, tileOf-account (getD (c .before .before .before .before .before .args .slots .now) (c .before .before .before .loop .i) 0))
+with-requires c κs =
+    let a = c .before .before .before .before .before .args in
+    let l = c .before .before .before .loop in
+    omega (arith, c .account .ensures, tileOf-account (getD (a .slots .now) (l .i) 0))
 
 pub tiled-spec : {M : Type 1} → statement M
-tiled-spec = tie.close (tie.spec Inv-loop μ-loop loop-holds (λ c. search needs) (λ c. search needs) (λ c κs. search needs) with-requires (λ c. search needs) (λ c. search needs) loop-again returns)
+tiled-spec =
+    tie.close (tie.spec Inv-loop μ-loop loop-holds (λ c. search needs) (λ c. search needs) (λ c κs. search needs) with-requires (λ c. search needs)
+    (λ c. search needs) loop-again returns)

@@ -15,7 +15,8 @@ use Rattle.mapfile_sections.proofs.total.Statement.{statement}
 use Rattle.mapfile_sections.proofs.total.Tie as tie
 
 abbrev Inv-loop : tie.InvT-loop
-Inv-loop account order tiles slots sum₀ i₀ sum i = (i ≤ tiles) × (sum + covered account (map tileOf (drop i (take tiles slots))) ≡ covered account (tilesIn tiles slots))
+Inv-loop account order tiles slots sum₀ i₀ sum i =
+    (i ≤ tiles) × (sum + covered account (map tileOf (drop i (take tiles slots))) ≡ covered account (tilesIn tiles slots))
 
 abbrev μ-loop : tie.MeasureT-loop
 μ-loop account order tiles slots sum₀ i₀ sum i = tiles - i
@@ -27,8 +28,11 @@ loop-again : tie.Need-loop-again Inv-loop μ-loop
 loop-again c =
     let a = c .before .before .before .before .before .args in
     let l = c .before .before .before .loop in
-    let k = length-take-le (a .tiles) (a .slots .now) (omega arith) in
-    (search needs, covered-on (a .account) (take (a .tiles) (a .slots .now)) (l .i) (l .sum) (l .inv .1) (c .share .result) (getD (a .slots .now) (l .i) 0) (omega arith) (getD-take (a .tiles) (a .slots .now) (l .i) 0 (omega arith)) (c .share .ensures))
+    let k = length-take-le (a .tiles) (a .slots .now) (omega arith) in (
+      search needs,
+      covered-on (a .account) (take (a .tiles) (a .slots .now)) (l .i) (l .sum) (l .inv .1) (c .share .result) (getD (a .slots .now)
+          (l .i) 0) (omega arith) (getD-take (a .tiles) (a .slots .now) (l .i) 0 (omega arith)) (c .share .ensures),
+    )
 
 returns : tie.Need-returns Inv-loop μ-loop
 returns c =
@@ -41,8 +45,17 @@ add-sum : tie.Need-add-sum Inv-loop μ-loop
 add-sum c =
     let a = c .before .before .before .before .before .args in
     let l = c .before .before .before .loop in
+    let p = c .before .before .before .before .before .pre in
     let k = length-take-le (a .tiles) (a .slots .now) (omega arith) in
-    omega (arith, covered-fits (a .account) (c .before .before .before .before .before .pre .0) (c .before .before .before .before .before .pre .2), covered-on (a .account) (take (a .tiles) (a .slots .now)) (l .i) (l .sum) (l .inv .1) (c .share .result) (getD (a .slots .now) (l .i) 0) (omega arith) (getD-take (a .tiles) (a .slots .now) (l .i) 0 (omega arith)) (c .share .ensures))
+    omega (
+      arith,
+      covered-fits (a .account) (p .0) (p .2),
+      covered-on (a .account) (take (a .tiles) (a .slots .now)) (l .i) (l .sum) (l .inv .1)
+          (c .share .result) (getD (a .slots .now) (l .i) 0) (omega arith) (getD-take (a .tiles) (a .slots .now) (l .i) 0 (omega arith))
+          (c .share .ensures),
+    )
 
 pub total-spec : {M : Type 1} → statement M
-total-spec = tie.close (tie.spec Inv-loop μ-loop loop-holds (λ c. search needs) (λ c. search needs) (λ c κs. search needs) add-sum (λ c. search needs) (λ c. search needs) loop-again returns)
+total-spec =
+    tie.close (tie.spec Inv-loop μ-loop loop-holds (λ c. search needs) (λ c. search needs) (λ c κs. search needs) add-sum (λ c. search needs)
+    (λ c. search needs) loop-again returns)

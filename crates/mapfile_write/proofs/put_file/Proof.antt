@@ -14,10 +14,20 @@ use Rattle.mapfile_write.proofs.put_file.Tie as tie
 returns : tie.Need-returns
 returns c =
     let a = c .before .before .before .before .before .before .before .before .before .before .before .before .before .before .args in
-    fileOf-put (a .order) (a .tiles) (a .accounts) (a .slots .now) (a .file .now) (c .before .before .before .before .before .before .before .before .before .before .before .before .before .before .pre .1) (c .before .before .before .before .before .before .before .before .before .before .before .before .before .before .pre .3) (omega (arith, length-set (a .file .now) 0 (a .order))) (c .before .before .before .before .before .before .before .before .before .before .before .before .before .before .pre .4) (c .before .before .before .before .before .before .before .before .before .before .put .ensures) (c .before .before .before .before .before .before .put-words .ensures) (c .before .before .put-roster .ensures)
+    let p = c .before .before .before .before .before .before .before .before .before .before .before .before .before .before .pre in
+    let put = c .before .before .before .before .before .before .before .before .before .before .put in
+    let put-words = c .before .before .before .before .before .before .put-words in
+    fileOf-put (a .order) (a .tiles) (a .accounts) (a .slots .now) (a .file .now) (p .1) (p .3) (omega (
+      arith,
+      length-set (a .file .now) 0
+          (a .order),
+    )) (p .4) (put .ensures) (put-words .ensures) (c .before .before .put-roster .ensures)
 
 cast-put : tie.Need-cast-put
-cast-put c = let a = c .before .before .before .args in omega (arith, few-tiles (a .order) (a .tiles) (a .slots .now) (c .before .before .before .pre .0) (c .before .before .before .pre .1) (c .before .before .before .pre .2))
+cast-put c =
+    let a = c .before .before .before .args in
+    let p = c .before .before .before .pre in
+    omega (arith, few-tiles (a .order) (a .tiles) (a .slots .now) (p .0) (p .1) (p .2))
 
 put-requires : tie.Need-put-requires
 put-requires c κs = simp length-set (omega arith)
@@ -26,24 +36,47 @@ put-words-requires : tie.Need-put-words-requires
 put-words-requires c κs = let a = c .before .before .before .before .before .before .before .args in omega (arith, length-set (a .file .now) 0 (a .order))
 
 sub-put-roster : tie.Need-sub-put-roster
-sub-put-roster c = let a = c .before .before .before .before .before .before .before .before .before .before .args in omega (arith, length-set (a .file .now) 0 (a .order))
+sub-put-roster c =
+    let a = c .before .before .before .before .before .before .before .before .before .before .args in
+    omega (arith, length-set (a .file .now) 0 (a .order))
 
 part-put-roster-start : tie.Need-part-put-roster-start
-part-put-roster-start c = let a = c .before .before .before .before .before .before .before .before .before .before .args in omega (arith, length-set (a .file .now) 0 (a .order))
+part-put-roster-start c =
+    let a = c .before .before .before .before .before .before .before .before .before .before .args in
+    omega (arith, length-set (a .file .now) 0 (a .order))
 
 part-put-roster-end : tie.Need-part-put-roster-end
-part-put-roster-end c = let a = c .before .before .before .before .before .before .before .before .before .before .args in omega (arith, length-set (a .file .now) 0 (a .order))
+part-put-roster-end c =
+    let a = c .before .before .before .before .before .before .before .before .before .before .args in
+    omega (arith, length-set (a .file .now) 0 (a .order))
 
 put-roster-requires : tie.Need-put-roster-requires
 put-roster-requires c κs =
     let a = c .before .before .before .before .before .before .before .before .before .before .before .args in
-    (c .before .before .before .before .before .before .before .before .before .before .before .pre .0, c .before .before .before .before .before .before .before .before .before .before .before .pre .1, c .before .before .before .before .before .before .before .before .before .before .before .pre .2, c .before .before .before .before .before .before .before .before .before .before .before .pre .3, roster-room (a .order) (a .tiles) (a .accounts) (a .slots .now) (a .file .now) (c .before .before .before .before .before .before .before .before .before .before .before .pre .1) (c .before .before .before .before .before .before .before .before .before .before .before .pre .3) (c .before .before .before .put-words .last .1 .1 .0) (omega (arith, length-set (a .file .now) 0 (a .order))) (c .before .before .before .before .before .before .before .before .before .before .before .pre .4))
+    let p = c .before .before .before .before .before .before .before .before .before .before .before .pre in
+    let put-words = c .before .before .before .put-words in (
+      p .0,
+      p .1,
+      p .2,
+      p .3,
+      roster-room (a .order) (a .tiles) (a .accounts) (a .slots .now) (a .file .now) (p .1) (p .3) (put-words .last .1 .1 .0)
+          (omega (arith, length-set (a .file .now) 0 (a .order))) (p .4),
+    )
 
 same-length : tie.Need-same-length
 same-length c =
     let a = c .before .before .before .before .before .before .before .before .before .before .before .before .before .before .args in
-    let b = c .before .before .before .before .before .before .put-words .last .1 .1 .0 in
-    omega (arith, part-same b (c .before .before .put-roster .last .1 .1 .1 .1 .0) (5 + 4 * a .tiles) (rosterBytes (rosterOf (tilesIn (a .tiles) (a .slots .now)))) (c .before .before .put-roster .ensures), length-set (a .file .now) 0 (a .order))
+    let put-roster = c .before .before .put-roster in
+    let put-words = c .before .before .before .before .before .before .put-words in
+    let b = put-words .last .1 .1 .0 in
+    omega (
+      arith,
+      part-same b (put-roster .last .1 .1 .1 .1 .0) (5 + 4 * a .tiles) (rosterBytes (rosterOf (tilesIn (a .tiles) (a .slots .now))))
+          (put-roster .ensures),
+      length-set (a .file .now) 0 (a .order),
+    )
 
 pub put-file-spec : {M : Type 1} → statement M
-put-file-spec = tie.close (tie.spec (λ c. search needs) (λ c. search needs) cast-put put-requires put-words-requires (λ c. search needs) (λ c. search needs) sub-put-roster part-put-roster-start part-put-roster-end put-roster-requires same-length returns)
+put-file-spec =
+    tie.close (tie.spec (λ c. search needs) (λ c. search needs) cast-put put-requires put-words-requires (λ c. search needs) (λ c. search needs)
+    sub-put-roster part-put-roster-start part-put-roster-end put-roster-requires same-length returns)

@@ -17,38 +17,65 @@ accounts-requires c κs = listCheck-valid _ _ _ .0 (sym (c .before .check .ensur
 
 mul-length : tie.Need-mul-length
 mul-length c =
-    let v = listCheck-valid (c .before .before .before .before .before .args .order) (c .before .before .before .before .before .args .tiles) (c .before .before .before .before .before .args .slots .now) .0 (sym (c .before .before .check .ensures) ∙ c .before .if1 .left) in
-    omega (arith, few-tiles (c .before .before .before .before .before .args .order) (c .before .before .before .before .before .args .tiles) (c .before .before .before .before .before .args .slots .now) (v .0) (v .1) (v .2))
+    let a = c .before .before .before .before .before .args in
+    let v = listCheck-valid (a .order) (a .tiles) (a .slots .now) .0 (sym (c .before .before .check .ensures) ∙ c .before .if1 .left) in
+    omega (arith, few-tiles (a .order) (a .tiles) (a .slots .now) (v .0) (v .1) (v .2))
 
 add-length : tie.Need-add-length
 add-length c =
-    let v = listCheck-valid (c .before .before .before .before .before .args .order) (c .before .before .before .before .before .args .tiles) (c .before .before .before .before .before .args .slots .now) .0 (sym (c .before .before .check .ensures) ∙ c .before .if1 .left) in
-    omega (arith, few-tiles (c .before .before .before .before .before .args .order) (c .before .before .before .before .before .args .tiles) (c .before .before .before .before .before .args .slots .now) (v .0) (v .1) (v .2))
+    let a = c .before .before .before .before .before .args in
+    let v = listCheck-valid (a .order) (a .tiles) (a .slots .now) .0 (sym (c .before .before .check .ensures) ∙ c .before .if1 .left) in
+    omega (arith, few-tiles (a .order) (a .tiles) (a .slots .now) (v .0) (v .1) (v .2))
 
 mul-length-2 : tie.Need-mul-length-2
-mul-length-2 c = omega (arith, c .accounts .ensures, rosterOf-few (tilesIn (c .before .before .before .before .before .args .tiles) (c .before .before .before .before .before .args .slots .now)))
+mul-length-2 c =
+    let a = c .before .before .before .before .before .args in
+    omega (arith, c .accounts .ensures, rosterOf-few (tilesIn (a .tiles) (a .slots .now)))
 
 add-length-2 : tie.Need-add-length-2
 add-length-2 c =
-    let v = listCheck-valid (c .before .before .before .before .before .args .order) (c .before .before .before .before .before .args .tiles) (c .before .before .before .before .before .args .slots .now) .0 (sym (c .before .before .check .ensures) ∙ c .before .if1 .left) in
-    omega (arith, c .accounts .ensures, rosterOf-few (tilesIn (c .before .before .before .before .before .args .tiles) (c .before .before .before .before .before .args .slots .now)), few-tiles (c .before .before .before .before .before .args .order) (c .before .before .before .before .before .args .tiles) (c .before .before .before .before .before .args .slots .now) (v .0) (v .1) (v .2))
+    let a = c .before .before .before .before .before .args in
+    let v = listCheck-valid (a .order) (a .tiles) (a .slots .now) .0 (sym (c .before .before .check .ensures) ∙ c .before .if1 .left) in
+    omega (
+      arith,
+      c .accounts .ensures,
+      rosterOf-few (tilesIn (a .tiles) (a .slots .now)),
+      few-tiles (a .order) (a .tiles) (a .slots .now) (v .0)
+          (v .1) (v .2),
+    )
 
 returns-2 : tie.Need-returns-2
 returns-2 c =
-    let e = sym (c .before .before .before .check .ensures) ∙ c .before .before .if1 .left in
-    let v = listCheck-valid (c .before .before .before .before .before .before .args .order) (c .before .before .before .before .before .before .args .tiles) (c .before .before .before .before .before .before .args .slots .now) .0 e in
-    writeOf-short _ _ _ _ e (omega (arith, fileOf-size (c .before .before .before .before .before .before .args .order) (c .before .before .before .before .before .before .args .tiles) (c .before .accounts .result) (c .before .before .before .before .before .before .args .slots .now) (v .1) (c .before .accounts .ensures)))
+    let a = c .before .before .before .before .before .before .args in
+    let check = c .before .before .before .check in
+    let e = sym (check .ensures) ∙ c .before .before .if1 .left in
+    let v = listCheck-valid (a .order) (a .tiles) (a .slots .now) .0 e in
+    writeOf-short _ _ _ _ e (omega (
+      arith,
+      fileOf-size (a .order) (a .tiles) (c .before .accounts .result) (a .slots .now) (v .1)
+          (c .before .accounts .ensures),
+    ))
 
 put-file-requires : tie.Need-put-file-requires
 put-file-requires c κs =
-    let v = listCheck-valid (c .before .before .before .before .before .before .before .args .order) (c .before .before .before .before .before .before .before .args .tiles) (c .before .before .before .before .before .before .before .args .slots .now) .0 (sym (c .before .before .before .before .check .ensures) ∙ c .before .before .before .if1 .left) in
+    let a = c .before .before .before .before .before .before .before .args in
+    let check = c .before .before .before .before .check in
+    let if1 = c .before .before .before .if1 in
+    let v = listCheck-valid (a .order) (a .tiles) (a .slots .now) .0 (sym (check .ensures) ∙ if1 .left) in
     (v .0, v .1, v .2, c .before .before .accounts .ensures, omega arith)
 
 returns-3 : tie.Need-returns-3
 returns-3 c =
-    let e = sym (c .before .before .before .before .before .before .before .check .ensures) ∙ c .before .before .before .before .before .before .if1 .left in
-    let v = listCheck-valid (c .before .before .before .before .before .before .before .before .before .before .args .order) (c .before .before .before .before .before .before .before .before .before .before .args .tiles) (c .before .before .before .before .before .before .before .before .before .before .args .slots .now) .0 e in
-    writeOf-put _ _ _ _ e _ (fileOf-size (c .before .before .before .before .before .before .before .before .before .before .args .order) (c .before .before .before .before .before .before .before .before .before .before .args .tiles) (c .before .before .before .before .before .accounts .result) (c .before .before .before .before .before .before .before .before .before .before .args .slots .now) (v .1) (c .before .before .before .before .before .accounts .ensures)) (omega arith) (c .before .before .put-file .ensures)
+    let a = c .before .before .before .before .before .before .before .before .before .before .args in
+    let accounts = c .before .before .before .before .before .accounts in
+    let check = c .before .before .before .before .before .before .before .check in
+    let if1 = c .before .before .before .before .before .before .if1 in
+    let e = sym (check .ensures) ∙ if1 .left in
+    let v = listCheck-valid (a .order) (a .tiles) (a .slots .now) .0 e in
+    writeOf-put _ _ _ _ e _ (fileOf-size (a .order) (a .tiles) (accounts .result) (a .slots .now) (v .1) (accounts .ensures)) (omega arith)
+    (c .before .before .put-file .ensures)
 
 pub write-spec : {M : Type 1} → statement M
-write-spec = tie.close (tie.spec (λ c κs. search needs) returns accounts-requires mul-length add-length mul-length-2 add-length-2 returns-2 put-file-requires (λ c. search needs) returns-3)
+write-spec =
+    tie.close (tie.spec (λ c κs. search needs) returns accounts-requires mul-length add-length mul-length-2 add-length-2 returns-2 put-file-requires
+    (λ c. search needs) returns-3)

@@ -22,12 +22,14 @@ answer e h = cc
 ahead-requires : tie.Need-ahead-requires
 ahead-requires c κs =
     let s = c .before in
-    let b = partCheck-passed (s .pre .0) (s .args .tiles) (s .args .slots .now) (s .args .corner) (s .args .size) (s .pre .1) in (b .count, valid-linear (b .valid) .rising)
+    let b = partCheck-passed (s .pre .0) (s .args .tiles) (s .args .slots .now) (s .args .corner) (s .args .size) (s .pre .1) in
+    (b .count, valid-linear (b .valid) .rising)
 
 area-requires : tie.Need-area-requires
 area-requires c κs =
     let s = c .before .before in
-    let b = partCheck-passed (s .pre .0) (s .args .tiles) (s .args .slots .now) (s .args .corner) (s .args .size) (s .pre .1) in omega (arith, b .size, b .order)
+    let b = partCheck-passed (s .pre .0) (s .args .tiles) (s .args .slots .now) (s .args .corner) (s .args .size) (s .pre .1) in
+    omega (arith, b .size, b .order)
 
 add-ahead : tie.Need-add-ahead
 add-ahead c =
@@ -40,32 +42,66 @@ add-ahead c =
 ahead-requires-2 : tie.Need-ahead-requires-2
 ahead-requires-2 c κs =
     let s = c .before .before .before in
-    let b = partCheck-passed (s .pre .0) (s .args .tiles) (s .args .slots .now) (s .args .corner) (s .args .size) (s .pre .1) in (b .count, valid-linear (b .valid) .rising)
+    let b = partCheck-passed (s .pre .0) (s .args .tiles) (s .args .slots .now) (s .args .corner) (s .args .size) (s .pre .1) in
+    (b .count, valid-linear (b .valid) .rising)
 
 returns : tie.Need-returns
 returns c =
+    let ahead = c .before .before .before .ahead in
     let s = c .before .before .before .before .before in
-    answer (c .before .before .before .ahead .ensures) (inside-none (partCheck-passed (s .pre .0) (s .args .tiles) (s .args .slots .now) (s .args .corner) (s .args .size) (s .pre .1)) (c .before .before .before .ahead .result) (c .before .ahead2 .result) (c .before .before .before .ahead .ensures) (c .before .ahead2 .ensures ∙ ap (λ (x : ℕ). counted (isAhead (s .args .corner + x)) (tilesIn (s .args .tiles) (s .args .slots .now))) (c .before .before .area .ensures)) (c .if1 .taken))
+    answer (ahead .ensures) (inside-none (partCheck-passed (s .pre .0) (s .args .tiles) (s .args .slots .now) (s .args .corner) (s .args .size)
+    (s .pre .1)) (ahead .result) (c .before .ahead2 .result) (ahead .ensures) (c .before .ahead2 .ensures ∙ ap (λ (x : ℕ). counted (isAhead
+    (s .args .corner + x)) (tilesIn (s .args .tiles) (s .args .slots .now))) (c .before .before .area .ensures)) (c .if1 .taken))
 
 mul-size : tie.Need-mul-size
 mul-size c =
+    let ahead = c .before .before .before .ahead in
     let s = c .before .before .before .before .before in
-    let b = partCheck-passed (s .pre .0) (s .args .tiles) (s .args .slots .now) (s .args .corner) (s .args .size) (s .pre .1) in omega (arith, b .count, to-le b (c .before .before .before .ahead .result) (c .before .ahead2 .result) (c .before .before .before .ahead .ensures) (c .before .ahead2 .ensures ∙ ap (λ (x : ℕ). counted (isAhead (s .args .corner + x)) (tilesIn (s .args .tiles) (s .args .slots .now))) (c .before .before .area .ensures)))
+    let b = partCheck-passed (s .pre .0) (s .args .tiles) (s .args .slots .now) (s .args .corner) (s .args .size) (s .pre .1) in
+    omega (
+      arith,
+      b .count,
+      to-le b (ahead .result) (c .before .ahead2 .result) (ahead .ensures) (c .before .ahead2 .ensures ∙ ap (λ (x : ℕ). counted
+          (isAhead (s .args .corner + x)) (tilesIn (s .args .tiles) (s .args .slots .now))) (c .before .before .area .ensures)),
+    )
 
 shared-slice-read-size : tie.Need-shared-slice-read-size
 shared-slice-read-size c =
+    let ahead = c .before .before .before .before .ahead in
+    let ahead2 = c .before .before .ahead2 in
+    let area = c .before .before .before .area in
     let s = c .before .before .before .before .before .before in
-    let b = partCheck-passed (s .pre .0) (s .args .tiles) (s .args .slots .now) (s .args .corner) (s .args .size) (s .pre .1) in omega (arith, b .count, to-le b (c .before .before .before .before .ahead .result) (c .before .before .ahead2 .result) (c .before .before .before .before .ahead .ensures) (c .before .before .ahead2 .ensures ∙ ap (λ (x : ℕ). counted (isAhead (s .args .corner + x)) (tilesIn (s .args .tiles) (s .args .slots .now))) (c .before .before .before .area .ensures)))
+    let b = partCheck-passed (s .pre .0) (s .args .tiles) (s .args .slots .now) (s .args .corner) (s .args .size) (s .pre .1) in
+    omega (
+      arith,
+      b .count,
+      to-le b (ahead .result) (ahead2 .result) (ahead .ensures) (ahead2 .ensures ∙ ap (λ (x : ℕ). counted (isAhead
+          (s .args .corner + x)) (tilesIn (s .args .tiles) (s .args .slots .now))) (area .ensures)),
+    )
 
 returns-2 : tie.Need-returns-2
 returns-2 c =
+    let ahead = c .before .before .before .before .before .before .ahead in
+    let ahead2 = c .before .before .before .before .ahead2 in
+    let area = c .before .before .before .before .before .area in
+    let if1 = c .before .before .before .if1 in
     let s = c .before .before .before .before .before .before .before .before in
-    answer (c .before .before .before .before .before .before .ahead .ensures) (inside-large (partCheck-passed (s .pre .0) (s .args .tiles) (s .args .slots .now) (s .args .corner) (s .args .size) (s .pre .1)) (c .before .before .before .before .before .before .ahead .result) (c .before .before .before .before .ahead2 .result) (c .before .before .before .before .before .before .ahead .ensures) (c .before .before .before .before .ahead2 .ensures ∙ ap (λ (x : ℕ). counted (isAhead (s .args .corner + x)) (tilesIn (s .args .tiles) (s .args .slots .now))) (c .before .before .before .before .before .area .ensures)) (c .before .before .before .if1 .left) (omega (arith, c .before .size .ensures)))
+    answer (ahead .ensures) (inside-large (partCheck-passed (s .pre .0) (s .args .tiles) (s .args .slots .now) (s .args .corner) (s .args .size)
+    (s .pre .1)) (ahead .result) (ahead2 .result) (ahead .ensures) (ahead2 .ensures ∙ ap (λ (x : ℕ). counted (isAhead (s .args .corner + x)) (tilesIn
+    (s .args .tiles) (s .args .slots .now))) (area .ensures)) (if1 .left) (omega (arith, c .before .size .ensures)))
 
 returns-3 : tie.Need-returns-3
 returns-3 c =
+    let ahead = c .before .before .before .before .before .before .ahead in
+    let ahead2 = c .before .before .before .before .ahead2 in
+    let area = c .before .before .before .before .before .area in
+    let if1 = c .before .before .before .if1 in
     let s = c .before .before .before .before .before .before .before .before in
-    answer (c .before .before .before .before .before .before .ahead .ensures) (inside-rest (partCheck-passed (s .pre .0) (s .args .tiles) (s .args .slots .now) (s .args .corner) (s .args .size) (s .pre .1)) (c .before .before .before .before .before .before .ahead .result) (c .before .before .before .before .ahead2 .result) (c .before .before .before .before .before .before .ahead .ensures) (c .before .before .before .before .ahead2 .ensures ∙ ap (λ (x : ℕ). counted (isAhead (s .args .corner + x)) (tilesIn (s .args .tiles) (s .args .slots .now))) (c .before .before .before .before .before .area .ensures)) (c .before .before .before .if1 .left) (omega (arith, c .before .size .ensures)))
+    answer (ahead .ensures) (inside-rest (partCheck-passed (s .pre .0) (s .args .tiles) (s .args .slots .now) (s .args .corner) (s .args .size)
+    (s .pre .1)) (ahead .result) (ahead2 .result) (ahead .ensures) (ahead2 .ensures ∙ ap (λ (x : ℕ). counted (isAhead (s .args .corner + x)) (tilesIn
+    (s .args .tiles) (s .args .slots .now))) (area .ensures)) (if1 .left) (omega (arith, c .before .size .ensures)))
 
 pub inside-spec : {M : Type 1} → statement M
-inside-spec = tie.close (tie.spec ahead-requires area-requires add-ahead ahead-requires-2 returns mul-size shared-slice-read-size (λ c κs. search needs) returns-2 (λ c. search needs) returns-3)
+inside-spec =
+    tie.close (tie.spec ahead-requires area-requires add-ahead ahead-requires-2 returns mul-size shared-slice-read-size (λ c κs. search needs)
+    returns-2 (λ c. search needs) returns-3)

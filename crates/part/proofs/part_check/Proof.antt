@@ -12,7 +12,9 @@ unfolding partCheck
 returns c = rw (sym (c .before .check .ensures)) (sym (else-off _ _ (c .if1 .taken)))
 
 block-requires : tie.Need-block-requires
-block-requires c κs = let a = c .before .before .before .args in listCheck-order (a .order) (a .tiles) (a .slots .now) (c .before .check .ensures) (c .if1 .left)
+block-requires c κs =
+    let a = c .before .before .before .args in
+    listCheck-order (a .order) (a .tiles) (a .slots .now) (c .before .check .ensures) (c .if1 .left)
 
 returns-2 : tie.Need-returns-2
 unfolding partCheck

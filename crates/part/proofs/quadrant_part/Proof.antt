@@ -16,7 +16,8 @@ inside-requires c κs = (c .before .before .before .args .order, sym (c .before 
 returns-2 : tie.Need-returns-2
 returns-2 c =
     let s = c .before .before .before .before in
-    c .inside .ensures ∙ sym (partOf-accepted (s .args .order) (s .args .tiles) (s .args .slots .now) (s .args .corner) (s .args .size) (sym (c .before .before .part-check .ensures) ∙ c .before .if1 .left))
+    c .inside .ensures ∙ sym (partOf-accepted (s .args .order) (s .args .tiles) (s .args .slots .now) (s .args .corner) (s .args .size) (sym
+    (c .before .before .part-check .ensures) ∙ c .before .if1 .left))
 
 pub quadrant-part-spec : {M : Type 1} → statement M
 quadrant-part-spec = tie.close (tie.spec (λ c κs. search needs) returns inside-requires returns-2)

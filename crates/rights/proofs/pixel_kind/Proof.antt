@@ -21,7 +21,9 @@ sub-result c = omega (arith, c .class-of .ensures, rowOf-lt (classOf (c .before 
 
 returns-3 : tie.Need-returns-3
 unfolding pixelKind if
-returns-3 c = simp (ne-eqb _ _ (c .before .before .if1 .left), ne-eqb _ _ (c .before .if2 .left)) (rw (c .class-of .ensures) (heldBy-row (classOf (c .before .before .before .args .holder))))
+returns-3 c =
+    let a = c .before .before .before .args in
+    simp (ne-eqb _ _ (c .before .before .if1 .left), ne-eqb _ _ (c .before .if2 .left)) (rw (c .class-of .ensures) (heldBy-row (classOf (a .holder))))
 
 pub pixel-kind-spec : {M : Type 1} → statement M
 pixel-kind-spec = tie.close (tie.spec returns returns-2 (λ c κs. search needs) sub-result returns-3)

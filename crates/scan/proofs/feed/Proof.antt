@@ -16,7 +16,10 @@ returns-2 c =
     let a = c .before .before .before .before .before .before .before .before .before .before .before .before .before .args in
     let r = c .before .before .before .before .before .before .feed-all in
     let q = c .before .before .close in
-    feed-done (a .scan) (a .slots .now) (a .accounts .now) _ _ (r .result) (r .ensures) (r .kept .1 .0) (q .kept .0 ∙ r .kept .1 .0) (q .ensures) (sym (c .before .before .before .before .before .before .before .before .before .open-check .ensures) ∙ c .before .before .before .before .before .before .before .before .if1 .left)
+    let open-check = c .before .before .before .before .before .before .before .before .before .open-check in
+    let if1 = c .before .before .before .before .before .before .before .before .if1 in
+    feed-done (a .scan) (a .slots .now) (a .accounts .now) _ _ (r .result) (r .ensures) (r .kept .1 .0) (q .kept .0 ∙ r .kept .1 .0) (q .ensures) (sym
+    (open-check .ensures) ∙ if1 .left)
 
 feed-all-requires : tie.Need-feed-all-requires
 feed-all-requires c κs = opening-opened _ _ (sym (c .before .before .open-check .ensures) ∙ c .before .if1 .left)
@@ -25,4 +28,6 @@ close-requires : tie.Need-close-requires
 close-requires c κs = c .before .before .before .feed-all .ensures .fits
 
 pub feed-spec : {M : Type 1} → statement M
-feed-spec = tie.close (tie.spec (λ c κs. search needs) (λ c. search needs) returns feed-all-requires close-requires (λ c. search needs) (λ c. search needs) (λ c. search needs) returns-2)
+feed-spec =
+    tie.close (tie.spec (λ c κs. search needs) (λ c. search needs) returns feed-all-requires close-requires (λ c. search needs) (λ c. search needs)
+    (λ c. search needs) returns-2)

@@ -33,13 +33,17 @@ returns : tie.Need-returns Inv-loop μ-loop
 returns c =
     let a = c .before .before .before .before .before .before .args in
     let l = c .before .before .before .before .loop in
-    sym (l .inv .1 ∙ covers-found (a .slots .now) (a .scan .tiles) (l .i) (omega arith) (omega arith) (a .scan) (sym (c .before .covers .ensures) ∙ c .if1 .taken))
+    sym (l .inv .1 ∙ covers-found (a .slots .now) (a .scan .tiles) (l .i) (omega arith) (omega arith) (a .scan) (sym (c .before .covers .ensures) ∙
+    c .if1 .taken))
 
 loop-again : tie.Need-loop-again Inv-loop μ-loop
 loop-again c =
     let a = c .before .before .before .before .before .before .args in
-    let l = c .before .before .before .before .loop in
-    (omega arith, l .inv .1 ∙ covers-on (a .slots .now) (a .scan .tiles) (l .i) (omega arith) (omega arith) (a .scan) (sym (c .before .covers .ensures) ∙ c .if1 .left))
+    let l = c .before .before .before .before .loop in (
+      omega arith,
+      l .inv .1 ∙ covers-on (a .slots .now) (a .scan .tiles) (l .i) (omega arith) (omega arith) (a .scan) (sym
+          (c .before .covers .ensures) ∙ c .if1 .left),
+    )
 
 returns-2 : tie.Need-returns-2 Inv-loop μ-loop
 returns-2 c =
@@ -48,4 +52,6 @@ returns-2 c =
     sym (l .inv .1 ∙ covers-none (a .scan) (a .slots .now) (a .scan .tiles) (l .i) (omega arith) (omega arith))
 
 pub covers-unscanned-spec : {M : Type 1} → statement M
-covers-unscanned-spec = tie.close (tie.spec Inv-loop μ-loop loop-holds (λ c. search needs) (λ c. search needs) covers-requires returns (λ c. search needs) (λ c. search needs) loop-again returns-2)
+covers-unscanned-spec =
+    tie.close (tie.spec Inv-loop μ-loop loop-holds (λ c. search needs) (λ c. search needs) covers-requires returns (λ c. search needs)
+    (λ c. search needs) loop-again returns-2)

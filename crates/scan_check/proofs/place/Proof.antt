@@ -19,7 +19,12 @@ add-result : tie.Need-add-result
 add-result c =
     let a = c .before .before .before .before .args in
     let p = c .before .before .before .before .pre in
-    record { fits = place-fits (a .kind) (a .order) (a .z) _ _ (c .before .before .enum-told .given .1) (p .0) (p .1) (c .before .row-of .ensures) (c .column-of .ensures) }
+    record {
+      fits = place-fits (a .kind) (a .order) (a .z) _ _ (c .before .before .enum-told .given .1) (p .0) (p .1) (c .before .row-of .ensures)
+          (c .column-of .ensures);
+    }
 
 pub place-spec : {M : Type 1} → statement M
-place-spec = tie.close (tie.spec (λ c. search needs) (λ c κs. search needs) (λ c. search needs) (λ c κs. search needs) add-result (λ c. search needs) returns returns-2)
+place-spec =
+    tie.close (tie.spec (λ c. search needs) (λ c κs. search needs) (λ c. search needs) (λ c κs. search needs) add-result (λ c. search needs) returns
+    returns-2)

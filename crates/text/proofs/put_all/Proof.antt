@@ -20,10 +20,19 @@ loop-holds : tie.Need-loop-holds Inv-loop μ-loop
 loop-holds c = (written-none (c .before .before .args .at) (c .before .before .args .out .now), omega arith, omega arith)
 
 loop-again : tie.Need-loop-again Inv-loop μ-loop
-loop-again c = (written-next (c .before .before .before .before .before .before .before .before .before .args .bytes .now) (c .before .before .before .before .before .before .loop .i) (omega arith) (c .before .before .before .before .before .before .loop .inv .0) (c .before .before .put .ensures), omega arith, omega (arith, c .before .before .put .ensures .stop))
+loop-again c =
+    let l = c .before .before .before .before .before .before .loop in
+    let put = c .before .before .put in
+    let a = c .before .before .before .before .before .before .before .before .before .args in
+    (written-next (a .bytes .now) (l .i) (omega arith) (l .inv .0) (put .ensures), omega arith, omega (arith, put .ensures .stop))
 
 returns : tie.Need-returns Inv-loop μ-loop
-returns c = let e : c .before .loop .i ≡ length (c .before .before .before .before .args .bytes .now) = omega arith in rw (e, take-length) at (c .before .loop .inv .0)
+returns c =
+    let a = c .before .before .before .before .args in
+    let e : c .before .loop .i ≡ length (a .bytes .now) = omega arith in
+    rw (e, take-length) at (c .before .loop .inv .0)
 
 pub put-all-spec : {M : Type 1} → statement M
-put-all-spec = tie.close (tie.spec Inv-loop μ-loop loop-holds (λ c. search needs) (λ c κs. search needs) (λ c. search needs) (λ c. search needs) loop-again (λ c. search needs) returns)
+put-all-spec =
+    tie.close (tie.spec Inv-loop μ-loop loop-holds (λ c. search needs) (λ c κs. search needs) (λ c. search needs) (λ c. search needs) loop-again
+    (λ c. search needs) returns)

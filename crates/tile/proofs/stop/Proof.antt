@@ -15,7 +15,10 @@ area-requires : tie.Need-area-requires
 area-requires c κs = omega (arith, c .size .ensures, tileOf-size (c .before .before .args .w))
 
 add-result : tie.Need-add-result
-add-result c = record { fits = stop-fits (c .before .before .before .args .w) _ _ _ (c .before .before .before .fits .w .fits) (c .before .before .corner .ensures) (c .before .size .ensures) (c .area .ensures) }
+add-result c =
+    let a = c .before .before .before .args in
+    let fits′ = c .before .before .before .fits in
+    record { fits = stop-fits (a .w) _ _ _ (fits′ .w .fits) (c .before .before .corner .ensures) (c .before .size .ensures) (c .area .ensures) }
 
 pub stop-spec : {M : Type 1} → statement M
 stop-spec = tie.close (tie.spec (λ c κs. search needs) (λ c κs. search needs) area-requires add-result returns)
