@@ -1,8 +1,7 @@
 // Claims: every pixel of a quadrant block gets an account. The list changes in place, by one move of its tail and a few words.
-ghost use mathlib.Core.Path.{_≡_};
 ghost use Prim.Native.Nat.{_≤_};
 ghost use lib.ListN.{length};
-ghost use Rattle.refusal.specs.Checks.{After};
+ghost use Rattle.refusal.specs.Checks.{Gives};
 ghost use Rattle.tile.specs.Slots.{tilesIn};
 ghost use Rattle.claim_plan.specs.Plan.{Claimable};
 ghost use Rattle.claim.specs.Claim.{claimOf};
@@ -24,7 +23,7 @@ fn claim_block(
     account: u8,
 ) -> Claimed
     requires { ⌜ (tiles ≤ length (now slots)) × Claimable order (tilesIn tiles (now slots)) corner size account ⌝ }
-    ensures { λ r. ⌜ _≡_ {A = After Claimed} (record { answer = r; storage = now (slots .exit) }) (claimOf order tiles (now (slots .entry)) corner size account) ⌝ }
+    ensures { λ r. ⌜ Gives r (now (slots .exit)) (claimOf order tiles (now (slots .entry)) corner size account) ⌝ }
 {
     let planned = claim_plan::plan(order, tiles, slots, corner, size, account);
     if slots.len() < planned.tiles {
@@ -53,7 +52,7 @@ pub fn claim(
     size: u32,
     account: u8,
 ) -> Claimed
-    ensures { λ r. ⌜ _≡_ {A = After Claimed} (record { answer = r; storage = now (slots .exit) }) (claimOf order tiles (now (slots .entry)) corner size account) ⌝ }
+    ensures { λ r. ⌜ Gives r (now (slots .exit)) (claimOf order tiles (now (slots .entry)) corner size account) ⌝ }
 {
     let listed = list_check::check(order, tiles, slots);
     if listed != refusal::ACCEPTED {

@@ -2,7 +2,7 @@
 ghost use mathlib.Core.Path.{_≡_};
 ghost use Prim.Native.Nat.{ℕ, _+_, _*_, _^_, _≤_};
 ghost use lib.ListN.{length};
-ghost use Rattle.refusal.specs.Checks.{After};
+ghost use Rattle.refusal.specs.Checks.{Gives};
 ghost use Rattle.tile.specs.Tile.{tileOf, highestOrder};
 ghost use Rattle.tile.specs.Slots.{tilesIn};
 ghost use Rattle.quadtree.specs.Raster.{accountAt, Quadrant};
@@ -80,7 +80,7 @@ fn fill(order: u32, tiles: usize, slots: &[u32], raster: &mut [u8])
 // The offered call: writes the account of each pixel to the raster, row after row. A list that list checking refuses is refused,
 // and so is a raster of another length than the bed has pixels; then no byte changes.
 pub fn decode(order: u32, tiles: usize, slots: &[u32], raster: &mut [u8]) -> u32
-    ensures { λ r. ⌜ _≡_ {A = After ℕ} (record { answer = r; storage = now (raster .exit) }) (decodeOf order tiles (now (slots .entry)) (now (raster .entry))) ⌝ }
+    ensures { λ r. ⌜ Gives r (now (raster .exit)) (decodeOf order tiles (now (slots .entry)) (now (raster .entry))) ⌝ }
 {
     let refusal = list_check::check(order, tiles, slots);
     if refusal != refusal::ACCEPTED {

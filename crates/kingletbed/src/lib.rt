@@ -2,7 +2,7 @@
 // include/kingletbed.h declares them and says what they do.
 ghost use mathlib.Core.Path.{_≡_};
 ghost use Prim.Native.Nat.{ℕ};
-ghost use Rattle.refusal.specs.Checks.{After};
+ghost use Rattle.refusal.specs.Checks.{Gives};
 ghost use Rattle.bed.specs.Places.{scanOf};
 ghost use Rattle.list_check.specs.ListCheck.{listCheck};
 ghost use Rattle.scan.specs.FreshScan.{freshOf};
@@ -75,7 +75,7 @@ pub extern "C" fn kb_check(order: u32, tiles: usize, slots: &[u32]) -> u32
 
 #[no_mangle]
 pub extern "C" fn kb_fresh(kind: u32, order: u32, slots: &mut [u32]) -> FreshAnswer
-    ensures { λ r. ⌜ _≡_ {A = After FreshAnswer} (record { answer = r; storage = now (slots .exit) }) (freshNumbers (freshOf (kindOf kind) order (now (slots .entry)))) ⌝ }
+    ensures { λ r. ⌜ Gives r (now (slots .exit)) (freshNumbers (freshOf (kindOf kind) order (now (slots .entry)))) ⌝ }
 {
     let fresh = scan::fresh_scan(kind_of(kind), order, slots);
     let scan = fresh.scan;
@@ -98,7 +98,7 @@ pub extern "C" fn kb_feed(
     slots: &mut [u32],
     accounts: &[u8],
 ) -> FeedAnswer
-    ensures { λ r. ⌜ _≡_ {A = After FeedAnswer} (record { answer = r; storage = now (slots .exit) }) (fedNumbers (feedOf (scanOf (kindOf kind) order pixels tiles) (now (slots .entry)) (now (accounts .entry)))) ⌝ }
+    ensures { λ r. ⌜ Gives r (now (slots .exit)) (fedNumbers (feedOf (scanOf (kindOf kind) order pixels tiles) (now (slots .entry)) (now (accounts .entry)))) ⌝ }
 {
     let kind = kind_of(kind);
     let scan = Scan {
@@ -122,7 +122,7 @@ pub extern "C" fn kb_feed(
 
 #[no_mangle]
 pub extern "C" fn kb_decode(order: u32, tiles: usize, slots: &[u32], raster: &mut [u8]) -> u32
-    ensures { λ r. ⌜ _≡_ {A = After ℕ} (record { answer = r; storage = now (raster .exit) }) (decodeOf order tiles (now (slots .entry)) (now (raster .entry))) ⌝ }
+    ensures { λ r. ⌜ Gives r (now (raster .exit)) (decodeOf order tiles (now (slots .entry)) (now (raster .entry))) ⌝ }
 {
     decode::decode(order, tiles, slots, raster)
 }
@@ -164,21 +164,21 @@ pub extern "C" fn kb_claim(
     size: u32,
     account: u8,
 ) -> Claimed
-    ensures { λ r. ⌜ _≡_ {A = After Claimed} (record { answer = r; storage = now (slots .exit) }) (claimOf order tiles (now (slots .entry)) corner size account) ⌝ }
+    ensures { λ r. ⌜ Gives r (now (slots .exit)) (claimOf order tiles (now (slots .entry)) corner size account) ⌝ }
 {
     claim::claim(order, tiles, slots, corner, size, account)
 }
 
 #[no_mangle]
 pub extern "C" fn kb_write(order: u32, tiles: usize, slots: &[u32], file: &mut [u8]) -> Written
-    ensures { λ r. ⌜ _≡_ {A = After Written} (record { answer = r; storage = now (file .exit) }) (writeOf order tiles (now (slots .entry)) (now (file .entry))) ⌝ }
+    ensures { λ r. ⌜ Gives r (now (file .exit)) (writeOf order tiles (now (slots .entry)) (now (file .entry))) ⌝ }
 {
     mapfile_write::write(order, tiles, slots, file)
 }
 
 #[no_mangle]
 pub extern "C" fn kb_read(file: &[u8], slots: &mut [u32]) -> Reading
-    ensures { λ r. ⌜ _≡_ {A = After Reading} (record { answer = r; storage = now (slots .exit) }) (readOf (now (file .entry)) (now (slots .entry))) ⌝ }
+    ensures { λ r. ⌜ Gives r (now (slots .exit)) (readOf (now (file .entry)) (now (slots .entry))) ⌝ }
 {
     mapfile_read::read(file, slots)
 }

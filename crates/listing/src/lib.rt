@@ -1,9 +1,8 @@
 // The listing of a scanned bed as text. As in crate `text`, what does not fit is counted, so that one run counts the
 // bytes and a second puts them.
-ghost use mathlib.Core.Path.{_≡_};
 ghost use Prim.Native.Nat.{_+_, _*_, _<_, _≤_};
 ghost use lib.ListN.{length, take};
-ghost use Rattle.refusal.specs.Checks.{After};
+ghost use Rattle.refusal.specs.Checks.{Gives};
 ghost use Rattle.tile.specs.Tile.{tileOf};
 ghost use Rattle.tile.specs.Slots.{tilesIn};
 ghost use Rattle.text.specs.Written.{Written, countLimit};
@@ -75,8 +74,7 @@ fn put_scanned(
 
 // Writes the listing that has no bed: the line of the feed's end alone.
 fn write_stop(number: u32, taken: usize, out: &mut [u8]) -> Listed
-    ensures { λ r. ⌜ _≡_ {A = After Listed} (record { answer = r; storage = now (out .exit) })
-        (listedIn (stopLine number taken) (now (out .entry))) ⌝ }
+    ensures { λ r. ⌜ Gives r (now (out .exit)) (listedIn (stopLine number taken) (now (out .entry))) ⌝ }
 {
     let mut none = [0u8; 1];
     let line = decimal::put_pair(&mut none, 0, b"stop ", number as usize, b" taken ", taken);
@@ -103,8 +101,7 @@ fn write_scanned(
     out: &mut [u8],
 ) -> Listed
     requires { ⌜ (tiles ≤ length (now slots)) × (tiles ≤ listedSlots) ⌝ }
-    ensures { λ r. ⌜ _≡_ {A = After Listed} (record { answer = r; storage = now (out .exit) })
-        (listedIn (scanLines order tiles (now (slots .entry)) number taken) (now (out .entry))) ⌝ }
+    ensures { λ r. ⌜ Gives r (now (out .exit)) (listedIn (scanLines order tiles (now (slots .entry)) number taken) (now (out .entry))) ⌝ }
 {
     let mut none = [0u8; 1];
     let length = put_scanned(
@@ -131,8 +128,7 @@ fn write_scanned(
 // The offered call: lists what a row scan of the input, an order and then account bytes, leaves and answers. It refuses
 // 26, and then writes nothing, where the listing takes more bytes than are lent.
 pub fn list(input: &[u8], out: &mut [u8]) -> Listed
-    ensures { λ r. ⌜ _≡_ {A = After Listed} (record { answer = r; storage = now (out .exit) })
-        (listOf (now (input .entry)) (now (out .entry))) ⌝ }
+    ensures { λ r. ⌜ Gives r (now (out .exit)) (listOf (now (input .entry)) (now (out .entry))) ⌝ }
 {
     if input.len() == 0 {
         return write_stop(refusal::FILE_CUT_SHORT, 0, out);

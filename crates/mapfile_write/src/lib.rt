@@ -3,7 +3,7 @@ ghost use mathlib.Core.Path.{_≡_};
 ghost use Prim.Native.Nat.{_+_, _*_, _≤_};
 ghost use lib.ListN.{length};
 ghost use lib.Seq.{sets};
-ghost use Rattle.refusal.specs.Checks.{After};
+ghost use Rattle.refusal.specs.Checks.{Gives};
 ghost use Rattle.tile.specs.Tile.{highestOrder};
 ghost use Rattle.tile.specs.Slots.{tilesIn};
 ghost use Rattle.quadtree.specs.Valid.{Valid};
@@ -31,7 +31,7 @@ fn put_file(order: u32, tiles: usize, slots: &[u32], accounts: usize, file: &mut
 
 // The offered call: writes the file of a list and answers its length, or answers the first refusal and changes no byte.
 pub fn write(order: u32, tiles: usize, slots: &[u32], file: &mut [u8]) -> Written
-    ensures { λ r. ⌜ _≡_ {A = After Written} (record { answer = r; storage = now (file .exit) }) (writeOf order tiles (now (slots .entry)) (now (file .entry))) ⌝ }
+    ensures { λ r. ⌜ Gives r (now (file .exit)) (writeOf order tiles (now (slots .entry)) (now (file .entry))) ⌝ }
 {
     let number = list_check::check(order, tiles, slots);
     if number != refusal::ACCEPTED {

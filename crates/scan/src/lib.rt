@@ -1,6 +1,5 @@
 // Fresh scans and feeds.
-ghost use mathlib.Core.Path.{_≡_};
-ghost use Rattle.refusal.specs.Checks.{After};
+ghost use Rattle.refusal.specs.Checks.{Gives};
 ghost use Rattle.scan.specs.FreshScan.{freshOf};
 ghost use Rattle.scan.specs.Feed.{feedOf};
 
@@ -19,7 +18,7 @@ pub struct Fed {
 
 // The offered call: a fresh scan of a kind and an order. Refused, 1, it changes no slot; accepted it sets all of them to 0.
 pub fn fresh_scan(kind: bed::Kind, order: u32, slots: &mut [u32]) -> Fresh
-    ensures { λ r. ⌜ _≡_ {A = After Fresh} (record { answer = r; storage = now (slots .exit) }) (freshOf kind order (now (slots .entry))) ⌝ }
+    ensures { λ r. ⌜ Gives r (now (slots .exit)) (freshOf kind order (now (slots .entry))) ⌝ }
 {
     if bed::Scan::HIGHEST_ORDER < order {
         return Fresh {
@@ -37,7 +36,7 @@ pub fn fresh_scan(kind: bed::Kind, order: u32, slots: &mut [u32]) -> Fresh
 // The offered call: feeds accounts to a scan. Refused by an opening check it changes nothing; past them it takes the accounts up to the first
 // that is refused, 23, 24 or 25, and leaves the list of what it took, with the other slots 0.
 pub fn feed(scan: bed::Scan, slots: &mut [u32], accounts: &[u8]) -> Fed
-    ensures { λ r. ⌜ _≡_ {A = After Fed} (record { answer = r; storage = now (slots .exit) }) (feedOf scan (now (slots .entry)) (now (accounts .entry))) ⌝ }
+    ensures { λ r. ⌜ Gives r (now (slots .exit)) (feedOf scan (now (slots .entry)) (now (accounts .entry))) ⌝ }
 {
     let number = scan_check::open_check(scan, slots);
     if number != refusal::ACCEPTED {
