@@ -26,7 +26,7 @@ use Rattle.bed.specs.Bed.{claimed}
 use Rattle.claim_plan.specs.declared.Planned.{Planned}
 use Rattle.claim_plan.specs.Plan.{Claimable, Plans, inner}
 use Rattle.claim_plan.proofs.Counts.{changes-pieces, changes-tiles}
-use Rattle.claim_store.specs.Stores.{Drawn, Opened}
+use Rattle.claim_store.specs.Stores.{Drawn, RoomMade}
 use Rattle.claim.specs.declared.Claimed.{Claimed}
 use Rattle.claim.specs.Claim.{claimOf}
 use Rattle.basics.proofs.MapLaws.{take-map, drop-map}
@@ -96,7 +96,7 @@ module _ {n t : ℕ} {s : List ℕ} {c k a : ℕ} {p : Planned} (w : Known n t s
   words-are = ap (λ (x : List Tile). map wordOf x) (sym (w .planned .change .result)) ∙ rw (map-append wordOf, map-append wordOf, come, take-map tileOf, words-tiles, drop-map tileOf, words-tiles, take-take (p .change .lo) t s (omega (arith, bounds .order, bounds .within)))
 
   -- room made, the tiles written, the slots behind them cleared
-  module _ {x y : List ℕ} (o : Opened s x (p .change .lo) (p .change .hi) t (p .pieces)) (ey : y ≡ take (p .change .lo) x ++ (map wordOf (comes a p) ++ drop (p .change .lo + p .pieces) x)) where
+  module _ {x y : List ℕ} (o : RoomMade s x (p .change .lo) (p .change .hi) t (p .pieces)) (ey : y ≡ take (p .change .lo) x ++ (map wordOf (comes a p) ++ drop (p .change .lo + p .pieces) x)) where
     size : length (take (p .change .lo) s ++ map wordOf (comes a p)) ≡ p .change .lo + p .pieces
     size = length-append (take (p .change .lo) s) (map wordOf (comes a p)) ∙ omega (
       arith,

@@ -1,3 +1,3 @@
 -- Laws of merging.
 pub mod SiblingsBeside
-pub mod Turns
+pub mod MergeTurns

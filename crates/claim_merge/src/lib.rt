@@ -9,7 +9,7 @@ ghost use Rattle.bed.specs.Bed.{claimed};
 ghost use Rattle.claim_merge.specs.Standing.{Block, Beside, Stands, Merges};
 
 // A tile of size `size` at `corner` in place of the tiles from `lo` up to `hi`.
-pub struct Merged {
+pub struct Grown {
     pub lo: usize,
     pub hi: usize,
     pub corner: u32,
@@ -53,7 +53,7 @@ pub fn merge(
     corner: u32,
     size: u32,
     account: u8,
-) -> Merged
+) -> Grown
     requires { ⌜ (order ≤ highestOrder) × Stands (claimed (accountAt (map tileOf (now list))) corner size account) order (map tileOf (now list)) account lo hi corner size ⌝ }
     ensures { λ r. ⌜ Merges (claimed (accountAt (map tileOf (now (list .entry)))) corner size account) order (map tileOf (now (list .entry))) account (r .lo) (r .hi) (r .corner) (r .size) ⌝ }
 {
@@ -70,7 +70,7 @@ pub fn merge(
         c -= place * side;
         k += 1;
     }
-    Merged {
+    Grown {
         lo: from,
         hi: to,
         corner: c,

@@ -1,6 +1,6 @@
 -- What the stores of a claim are handed and leave. Definitions only.
 --     Drawn length at k c a v s d     the numbers of a block of size s at d around a block of size k at c, whose tiles go to the slots from `at` on
---     Opened s t lo hi count m        t is s with room for m words in place of those from lo up to hi, of count words
+--     RoomMade s t lo hi count m        t is s with room for m words in place of those from lo up to hi, of count words
 use mathlib.Core.Path.{_≡_}
 use mathlib.Core.List.{List}
 use Prim.Native.Nat.{ℕ, _+_, _-_, _*_, _^_, _≤_, _<_}
@@ -20,6 +20,6 @@ pub record Drawn (length at k c a v s d : ℕ) : Type 0 where
   pub account : a ≤ highestAccount
   pub fits : at + (3 * (s - k) + inner a) ≤ length
 
-pub record Opened (s t : List ℕ) (lo hi count m : ℕ) : Type 0 where
+pub record RoomMade (s t : List ℕ) (lo hi count m : ℕ) : Type 0 where
   pub ahead : take lo t ≡ take lo s
   pub tail : take (count - hi) (drop (lo + m) t) ≡ slice hi count s

@@ -6,12 +6,12 @@ ghost use lib.ListN.{length, take, drop};
 ghost use Rattle.tile.specs.Tile.{wordOf};
 ghost use Rattle.claim_split.specs.Split.{pieces};
 ghost use Rattle.claim_plan.specs.Plan.{inner};
-ghost use Rattle.claim_store.specs.Stores.{Drawn, Opened};
+ghost use Rattle.claim_store.specs.Stores.{Drawn, RoomMade};
 
 // Makes room for `count` words in place of those from lo up to hi, in a list of so many tiles.
 pub fn make_room(slots: &mut [u32], lo: usize, hi: usize, tiles: usize, count: usize)
     requires { ⌜ (lo ≤ hi) × (hi ≤ tiles) × (tiles ≤ length (now slots)) × (lo + count + (tiles - hi) ≤ length (now slots)) ⌝ }
-    ensures { λ r. ⌜ Opened (now (slots .entry)) (now (slots .exit)) lo hi tiles count ⌝ }
+    ensures { λ r. ⌜ RoomMade (now (slots .entry)) (now (slots .exit)) lo hi tiles count ⌝ }
 {
     let gap = hi - lo;
     if gap == count {

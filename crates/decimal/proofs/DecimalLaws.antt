@@ -13,8 +13,8 @@ use native.Mathlib.Omega.{arith}
 use lib.ListN.{length, length-append}
 use Rattle.basics.proofs.Tests.{test-leb}
 use Rattle.basics.proofs.ChoiceLaws.{if-yes, if-no, by-if}
-use Rattle.text.specs.Written.{Written}
-use Rattle.text.proofs.WrittenLaws.{written-none, written-then}
+use Rattle.text.specs.PutAt.{PutAt}
+use Rattle.text.proofs.PutAtLaws.{put-at-none, put-at-then}
 use Rattle.decimal.specs.Decimal.{digitsBy}
 
 pub digitsBy-most : (k n : ℕ) → length (digitsBy k n) ≤ k
@@ -49,15 +49,15 @@ unfolding digitsBy
 digitsBy-more zero n p h = absurd (p refl)
 digitsBy-more (suc k) n p h = let e : suc k - 1 ≡ k = omega arith in rw e (if-no _ _ (test-leb (suc n) 10) (λ g. omega arith))
 
-pub digits-end : (k n : ℕ) {at : ℕ} {old : List ℕ} {end : ℕ} {new : List ℕ} → Written (digitsBy k n) at old end new → end ≤ at + k
+pub digits-end : (k n : ℕ) {at : ℕ} {old : List ℕ} {end : ℕ} {new : List ℕ} → PutAt (digitsBy k n) at old end new → end ≤ at + k
 digits-end k n w = omega (arith, w .stop, digitsBy-most k n)
 
-pub digits-none : (k n at : ℕ) (out : List ℕ) → k ≡ 0 → Written (digitsBy k n) at out at out
-digits-none k n at out e = rw (digitsBy-none k n e) (written-none at out)
+pub digits-none : (k n at : ℕ) (out : List ℕ) → k ≡ 0 → PutAt (digitsBy k n) at out at out
+digits-none k n at out e = rw (digitsBy-none k n e) (put-at-none at out)
 
 module _ (k n : ℕ) (p : k ≡ 0 → ⊥) {d at : ℕ} {old : List ℕ} {end : ℕ} {new : List ℕ} where
-  pub digits-last : n < 10 → d ≡ 48 + n → Written (d ∷ []) at old end new → Written (digitsBy k n) at old end new
+  pub digits-last : n < 10 → d ≡ 48 + n → PutAt (d ∷ []) at old end new → PutAt (digitsBy k n) at old end new
   digits-last h e w = rw (digitsBy-last k n p h) (rw e at w)
 
-  pub digits-more : {mid : ℕ} {half : List ℕ} → 10 ≤ n → d ≡ 48 + n % 10 → Written (digitsBy (k - 1) (n / 10)) at old mid half → Written (d ∷ []) mid half end new → Written (digitsBy k n) at old end new
-  digits-more h e v w = rw (digitsBy-more k n p h) (written-then v (rw e at w))
+  pub digits-more : {mid : ℕ} {half : List ℕ} → 10 ≤ n → d ≡ 48 + n % 10 → PutAt (digitsBy (k - 1) (n / 10)) at old mid half → PutAt (d ∷ []) mid half end new → PutAt (digitsBy k n) at old end new
+  digits-more h e v w = rw (digitsBy-more k n p h) (put-at-then v (rw e at w))

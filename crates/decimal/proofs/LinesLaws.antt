@@ -7,8 +7,8 @@ use mathlib.Core.List.{List, [], _∷_, _++_, append-assoc}
 use Prim.Native.Nat.{ℕ, _+_, _≤_}
 use native.Mathlib.Omega.{arith}
 use lib.ListN.{length, length-append}
-use Rattle.text.specs.Written.{Written}
-use Rattle.text.proofs.WrittenLaws.{written-then}
+use Rattle.text.specs.PutAt.{PutAt}
+use Rattle.text.proofs.PutAtLaws.{put-at-then}
 use Rattle.decimal.specs.Decimal.{digitsMost, digits}
 use Rattle.decimal.specs.Lines.{lineFeed, tripleMost, pairLine, tripleLine}
 use Rattle.decimal.proofs.DecimalLaws.{digitsBy-most}
@@ -24,5 +24,5 @@ tripleLine-most a b c =
     omega (arith, tripleLine-length a b c, digitsBy-most digitsMost a, digitsBy-most digitsMost b, digitsBy-most digitsMost c)
 
 pub pair-put : (v : List ℕ) (m : ℕ) (w : List ℕ) (n : ℕ) {at : ℕ} {old : List ℕ} {p : ℕ} {one : List ℕ} {q : ℕ} {two : List ℕ} {end : ℕ} {new : List ℕ} →
-    Written (v ++ digits m) at old p one → Written (w ++ digits n) p one q two → Written (lineFeed ∷ []) q two end new → Written (pairLine v m w n) at old end new
-pair-put v m w n x y z = simp append-assoc at (written-then x (written-then y z))
+    PutAt (v ++ digits m) at old p one → PutAt (w ++ digits n) p one q two → PutAt (lineFeed ∷ []) q two end new → PutAt (pairLine v m w n) at old end new
+pair-put v m w n x y z = simp append-assoc at (put-at-then x (put-at-then y z))

@@ -3,7 +3,7 @@ ghost use mathlib.Core.Path.{_≡_};
 ghost use mathlib.Core.List.{_++_};
 ghost use Prim.Native.Nat.{_+_, _<_};
 ghost use lib.ListN.{length};
-ghost use Rattle.text.specs.Written.{Written, countLimit};
+ghost use Rattle.text.specs.PutAt.{PutAt, countLimit};
 ghost use Rattle.decimal.specs.Decimal.{digitsBy, digitsMost, digits};
 ghost use Rattle.decimal.specs.Lines.{tripleMost, pairLine, tripleLine};
 
@@ -23,7 +23,7 @@ fn digit(d: usize) -> u8
 // Puts the last digits of n, at most `places` of them.
 fn put_digits(out: &mut [u8], at: usize, places: usize, n: usize) -> usize
     requires { ⌜ at + places < countLimit ⌝ }
-    ensures { λ r. ⌜ Written (digitsBy places n) at (now (out .entry)) r (now (out .exit)) ⌝ }
+    ensures { λ r. ⌜ PutAt (digitsBy places n) at (now (out .entry)) r (now (out .exit)) ⌝ }
 {
     if places == 0 {
         return at;
@@ -38,7 +38,7 @@ fn put_digits(out: &mut [u8], at: usize, places: usize, n: usize) -> usize
 // Puts a number in decimal.
 pub fn put_number(out: &mut [u8], at: usize, n: usize) -> usize
     requires { ⌜ at + digitsMost < countLimit ⌝ }
-    ensures { λ r. ⌜ Written (digits n) at (now (out .entry)) r (now (out .exit)) ⌝ }
+    ensures { λ r. ⌜ PutAt (digits n) at (now (out .entry)) r (now (out .exit)) ⌝ }
 {
     put_digits(out, at, DIGITS_MOST, n)
 }
@@ -46,7 +46,7 @@ pub fn put_number(out: &mut [u8], at: usize, n: usize) -> usize
 // Puts a byte string and a number behind it.
 fn put_field(out: &mut [u8], at: usize, ahead: &[u8], n: usize) -> usize
     requires { ⌜ at + length (now ahead) + digitsMost < countLimit ⌝ }
-    ensures { λ r. ⌜ Written (now (ahead .entry) ++ digits n) at (now (out .entry)) r (now (out .exit)) ⌝ }
+    ensures { λ r. ⌜ PutAt (now (ahead .entry) ++ digits n) at (now (out .entry)) r (now (out .exit)) ⌝ }
 {
     let p = text::put_all(out, at, ahead);
     put_number(out, p, n)
@@ -55,7 +55,7 @@ fn put_field(out: &mut [u8], at: usize, ahead: &[u8], n: usize) -> usize
 // Puts a line of two numbers, each behind a byte string.
 pub fn put_pair(out: &mut [u8], at: usize, first: &[u8], m: usize, second: &[u8], n: usize) -> usize
     requires { ⌜ at + length (now first) + length (now second) + tripleMost < countLimit ⌝ }
-    ensures { λ r. ⌜ Written (pairLine (now (first .entry)) m (now (second .entry)) n) at (now (out .entry)) r
+    ensures { λ r. ⌜ PutAt (pairLine (now (first .entry)) m (now (second .entry)) n) at (now (out .entry)) r
         (now (out .exit)) ⌝ }
 {
     let p = put_field(out, at, first, m);
@@ -66,7 +66,7 @@ pub fn put_pair(out: &mut [u8], at: usize, first: &[u8], m: usize, second: &[u8]
 // Puts a line of three numbers, with a space between them.
 pub fn put_triple(out: &mut [u8], at: usize, a: usize, b: usize, c: usize) -> usize
     requires { ⌜ at + tripleMost < countLimit ⌝ }
-    ensures { λ r. ⌜ Written (tripleLine a b c) at (now (out .entry)) r (now (out .exit)) ⌝ }
+    ensures { λ r. ⌜ PutAt (tripleLine a b c) at (now (out .entry)) r (now (out .exit)) ⌝ }
 {
     let p = put_number(out, at, a);
     let q = put_field(out, p, b" ", b);

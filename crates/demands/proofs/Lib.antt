@@ -1,6 +1,6 @@
 -- The demands proved.
 pub mod Kept
-pub mod Unscanned
-pub mod Steps
+pub mod UnscannedAlike
+pub mod CallSteps
 pub mod Scanning
 pub mod Theorems

@@ -29,8 +29,8 @@ use Rattle.scan.specs.FreshScan.{freshOf}
 use Rattle.demands.specs.Calls.{Answer, State, step, plainStep, plainFed, feed}
 use Rattle.demands.specs.Demands.{freshState, afterFeeds, taken, answered, scanRaster, scanBed}
 use Rattle.demands.proofs.Kept.{keptBy, Kept}
-use Rattle.demands.proofs.Unscanned.{none-unscanned}
-use Rattle.demands.proofs.Steps.{Agrees, fresh-kept, step-agrees}
+use Rattle.demands.proofs.UnscannedAlike.{none-unscanned}
+use Rattle.demands.proofs.CallSteps.{Agrees, fresh-kept, step-agrees}
 
 -- what is kept goes by the raster's accounts on the bed
 good-agree : {m n s : ℕ} {f g : ℕ → ℕ} → Agree n f g → Good m n s f → Good m n s g

@@ -14,7 +14,7 @@ use Rattle.bed.specs.Bed.{Bed}
 use Rattle.demands.specs.Calls.{Call, State, step, plainStep, answers, left, plainAnswers, plainLeft, Begins}
 use Rattle.demands.specs.Demands.{listIn, DemandTwo, DemandThree}
 use Rattle.demands.proofs.Kept.{Kept, kept-list, kept-left}
-use Rattle.demands.proofs.Steps.{Agrees, step-agrees, begin-agrees}
+use Rattle.demands.proofs.CallSteps.{Agrees, step-agrees, begin-agrees}
 use Rattle.demands.proofs.Scanning.{scan-kept, scan-counted}
 
 -- a list of calls on a state that keeps a bed

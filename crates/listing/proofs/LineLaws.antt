@@ -13,8 +13,8 @@ use native.Mathlib.Numerals.{add-one}
 use lib.ListN.{length, take, getD, length-append}
 use Rattle.tile.specs.Tile.{Tile, tileOf}
 use Rattle.tile.specs.Slots.{tilesIn}
-use Rattle.text.specs.Written.{Written}
-use Rattle.text.proofs.WrittenLaws.{written-none, written-then}
+use Rattle.text.specs.PutAt.{PutAt}
+use Rattle.text.proofs.PutAtLaws.{put-at-none, put-at-then}
 use Rattle.decimal.specs.Lines.{tripleMost, tripleLine}
 use Rattle.decimal.proofs.LinesLaws.{tripleLine-most}
 use Rattle.listing.specs.Listing.{tileLine, tileLines}
@@ -41,14 +41,14 @@ unfolding tilesIn
 tileLines-next ws i h = rw (add-one i) (next ws i h)
 
 pub line-put : (w : ℕ) {c s a at : ℕ} {old : List ℕ} {end : ℕ} {new : List ℕ} → c ≡ tileOf w .corner → s ≡ tileOf w .size → a ≡ tileOf w .account →
-    Written (tripleLine c s a) at old end new → Written (tileLine (tileOf w)) at old end new
+    PutAt (tripleLine c s a) at old end new → PutAt (tileLine (tileOf w)) at old end new
 unfolding tileLine
 line-put w e f g v = rw (e, f, g) at v
 
-pub lines-none : (ws : List ℕ) (at : ℕ) (out : List ℕ) → Written (tileLines (tilesIn 0 ws)) at out at out
+pub lines-none : (ws : List ℕ) (at : ℕ) (out : List ℕ) → PutAt (tileLines (tilesIn 0 ws)) at out at out
 unfolding tileLines tilesIn
-lines-none ws at out = written-none at out
+lines-none ws at out = put-at-none at out
 
 pub lines-next : (ws : List ℕ) (i : ℕ) {at : ℕ} {old : List ℕ} {mid : ℕ} {half : List ℕ} {end : ℕ} {new : List ℕ} → i < length ws →
-    Written (tileLines (tilesIn i ws)) at old mid half → Written (tileLine (tileOf (getD ws i 0))) mid half end new → Written (tileLines (tilesIn (i + 1) ws)) at old end new
-lines-next ws i h v w = rw (tileLines-next ws i h) (written-then v w)
+    PutAt (tileLines (tilesIn i ws)) at old mid half → PutAt (tileLine (tileOf (getD ws i 0))) mid half end new → PutAt (tileLines (tilesIn (i + 1) ws)) at old end new
+lines-next ws i h v w = rw (tileLines-next ws i h) (put-at-then v w)

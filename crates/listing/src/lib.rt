@@ -5,7 +5,7 @@ ghost use lib.ListN.{length, take};
 ghost use Rattle.refusal.specs.Checks.{Gives};
 ghost use Rattle.tile.specs.Tile.{tileOf};
 ghost use Rattle.tile.specs.Slots.{tilesIn};
-ghost use Rattle.text.specs.Written.{Written, countLimit};
+ghost use Rattle.text.specs.PutAt.{PutAt, countLimit};
 ghost use Rattle.decimal.specs.Lines.{tripleMost};
 ghost use Rattle.listing.specs.Listing.{tileLine, tileLines, stopLine, scanLines, listedSlots};
 ghost use Rattle.listing.specs.Listing.{listedIn, listOf, inputBytes, Whole};
@@ -31,7 +31,7 @@ pub const LISTING_BYTES: usize = 65536;
 // Puts the line of the tile of a word.
 fn put_word(out: &mut [u8], at: usize, word: u32) -> usize
     requires { ⌜ at + tripleMost < countLimit ⌝ }
-    ensures { λ r. ⌜ Written (tileLine (tileOf word)) at (now (out .entry)) r (now (out .exit)) ⌝ }
+    ensures { λ r. ⌜ PutAt (tileLine (tileOf word)) at (now (out .entry)) r (now (out .exit)) ⌝ }
 {
     let corner = tile::corner(word);
     let size = tile::size(word);
@@ -42,7 +42,7 @@ fn put_word(out: &mut [u8], at: usize, word: u32) -> usize
 // Puts the lines of a list's tiles.
 fn put_tiles(out: &mut [u8], at: usize, tiles: usize, slots: &[u32]) -> usize
     requires { ⌜ (tiles ≤ length (now slots)) × (at + tripleMost * tiles < countLimit) ⌝ }
-    ensures { λ r. ⌜ Written (tileLines (tilesIn tiles (now (slots .entry)))) at (now (out .entry)) r
+    ensures { λ r. ⌜ PutAt (tileLines (tilesIn tiles (now (slots .entry)))) at (now (out .entry)) r
         (now (out .exit)) ⌝ }
 {
     let mut place = at;
@@ -64,7 +64,7 @@ fn put_scanned(
     taken: usize,
 ) -> usize
     requires { ⌜ (tiles ≤ length (now slots)) × (tiles ≤ listedSlots) ⌝ }
-    ensures { λ r. ⌜ Written (scanLines order tiles (now (slots .entry)) number taken) 0 (now (out .entry)) r
+    ensures { λ r. ⌜ PutAt (scanLines order tiles (now (slots .entry)) number taken) 0 (now (out .entry)) r
         (now (out .exit)) ⌝ }
 {
     let p = decimal::put_pair(out, 0, b"bed ", order, b" tiles ", tiles);

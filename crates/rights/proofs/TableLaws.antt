@@ -13,7 +13,7 @@ use lib.ListN.{getD}
 use Rattle.basics.proofs.Tests.{test-eqb}
 use Rattle.basics.proofs.ChoiceLaws.{by-if}
 use Rattle.rights.specs.Rights.{Class, staff, student, guest, classOf, tableRow, heldBy, pixelKind, mayPlace}
-use Rattle.rights.specs.Table.{rowOf}
+use Rattle.rights.specs.Rows.{rowOf}
 
 abbrev pub tableRows : List (List Bool)
 tableRows = tableRow staff ∷ tableRow student ∷ tableRow guest ∷ []

@@ -2,7 +2,7 @@
 ghost use mathlib.Core.Path.{_≡_};
 ghost use Prim.Native.Nat.{_<_};
 ghost use Rattle.rights.specs.Rights.{classOf, pixelKind, mayPlace, rightsCheck, rightsOf};
-ghost use Rattle.rights.specs.Table.{rowOf};
+ghost use Rattle.rights.specs.Rows.{rowOf};
 
 // The rights call's answer.
 #[repr(C)]

@@ -1,2 +1,2 @@
 -- Laws of bytes put into a lent buffer.
-pub mod WrittenLaws
+pub mod PutAtLaws

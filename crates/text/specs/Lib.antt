@@ -1,2 +1,2 @@
 -- Bytes put into a lent buffer.
-pub mod Written
+pub mod PutAt

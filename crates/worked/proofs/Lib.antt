@@ -1,2 +1,2 @@
 -- The worked beds, computed.
-pub mod Computed
+pub mod StarredComputed

@@ -8,7 +8,7 @@ use Rattle.quadtree.specs.Raster.{accountAt}
 use Rattle.basics.proofs.Tests.{told-true, told-false}
 use Rattle.bed.specs.Bed.{claimed}
 use Rattle.claim_merge.specs.Standing.{Stands}
-use Rattle.claim_merge.proofs.Turns.{Turn, stands-turn, stands-block, stands-up, stands-merges}
+use Rattle.claim_merge.proofs.MergeTurns.{Turn, stands-turn, stands-block, stands-up, stands-merges}
 use Rattle.claim_merge.proofs.merge.Statement.{statement}
 use Rattle.claim_merge.proofs.merge.Tie as tie
 

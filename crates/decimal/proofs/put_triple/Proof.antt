@@ -1,5 +1,5 @@
 -- `decimal::put_triple` meets its contract: each number is put behind the one before. Assumes nothing.
-use Rattle.text.proofs.WrittenLaws.{written-then}
+use Rattle.text.proofs.PutAtLaws.{put-at-then}
 use Rattle.decimal.specs.Decimal.{digitsMost}
 use Rattle.decimal.proofs.DecimalLaws.{digitsBy-most}
 use native.Mathlib.Omega.{arith}
@@ -12,7 +12,7 @@ returns c =
     let put-number = c .before .before .before .before .before .before .before .before .before .before .before .before .before .before .before .before .put-number in
     let put-field = c .before .before .before .before .before .before .before .before .before .before .before .put-field in
     let put-field2 = c .before .before .before .before .before .before .put-field2 in
-    written-then (put-number .ensures) (written-then (put-field .ensures) (written-then (put-field2 .ensures) (c .before .before .put .ensures)))
+    put-at-then (put-number .ensures) (put-at-then (put-field .ensures) (put-at-then (put-field2 .ensures) (c .before .before .put .ensures)))
 
 put-field-requires : tie.Need-put-field-requires
 put-field-requires c κs = omega (arith, digitsBy-most digitsMost (c .before .before .before .before .before .before .before .args .a))

@@ -1,7 +1,7 @@
 -- `listing::put_scanned` meets its contract: the three parts, each put behind the one before. Assumes nothing.
 use Rattle.tile.specs.Slots.{tilesIn}
 use Rattle.tile.proofs.SlotsLaws.{length-tilesIn}
-use Rattle.text.proofs.WrittenLaws.{written-then}
+use Rattle.text.proofs.PutAtLaws.{put-at-then}
 use Rattle.decimal.specs.Lines.{tripleMost}
 use Rattle.decimal.proofs.LinesLaws.{pairLine-most}
 use Rattle.listing.specs.Listing.{bedWord, tilesWord, bedLine, stopLine}
@@ -16,7 +16,7 @@ unfolding bedLine stopLine
 returns c =
     let put-pair = c .before .before .before .before .before .before .before .before .before .before .before .before .put-pair in
     let put-tiles = c .before .before .before .before .before .before .before .before .put-tiles in
-    written-then (put-pair .ensures) (written-then (put-tiles .ensures) (c .before .before .put-pair2 .ensures))
+    put-at-then (put-pair .ensures) (put-at-then (put-tiles .ensures) (c .before .before .put-pair2 .ensures))
 
 put-tiles-requires : tie.Need-put-tiles-requires
 put-tiles-requires c κs =

@@ -1,7 +1,7 @@
 -- `listing::put_tiles` meets its contract. The loop's invariant: the lines of the first i tiles are put, at most `tripleMost` bytes for each. Assumes nothing.
 use Rattle.tile.specs.Tile.{tileOf}
 use Rattle.tile.specs.Slots.{tilesIn}
-use Rattle.text.specs.Written.{Written}
+use Rattle.text.specs.PutAt.{PutAt}
 use Rattle.listing.specs.Listing.{tileLines}
 use Rattle.decimal.specs.Lines.{tripleMost}
 use Rattle.listing.proofs.LineLaws.{tileLine-most, lines-none, lines-next}
@@ -14,7 +14,7 @@ use Rattle.listing.proofs.put_tiles.Statement.{statement}
 use Rattle.listing.proofs.put_tiles.Tie as tie
 
 abbrev Inv-loop : tie.InvT-loop
-Inv-loop out₀ at tiles slots place₀ i₀ out place i = (i ≤ tiles) × Written (tileLines (tilesIn i slots)) at out₀ place out × (place ≤ at + tripleMost * i)
+Inv-loop out₀ at tiles slots place₀ i₀ out place i = (i ≤ tiles) × PutAt (tileLines (tilesIn i slots)) at out₀ place out × (place ≤ at + tripleMost * i)
 
 abbrev μ-loop : tie.MeasureT-loop
 μ-loop out₀ at tiles slots place₀ i₀ out place i = tiles - i

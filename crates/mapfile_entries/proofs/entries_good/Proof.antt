@@ -5,7 +5,7 @@ use Rattle.tile.specs.Tile.{tileOf}
 use Rattle.mapfile_bytes.specs.Items.{wordsAt}
 use Rattle.mapfile_roster.specs.Roster.{entriesGood}
 use Rattle.mapfile_entries.specs.RosterCheck.{entriesAt}
-use Rattle.mapfile_entries.proofs.InTurn.{entries-start, entries-end, entries-on, entries-stop}
+use Rattle.mapfile_entries.proofs.EntriesInTurn.{entries-start, entries-end, entries-on, entries-stop}
 use mathlib.Core.Path.{_≡_}
 use Prim.Native.Nat.{_+_, _-_, _*_, _≤_}
 use native.Mathlib.Omega.{arith}

@@ -6,7 +6,7 @@ use Rattle.tile.proofs.TileLaws.{tileOf-account}
 use Rattle.mapfile_bytes.specs.Items.{wordsAt}
 use Rattle.mapfile_roster.specs.Roster.{tilesListed}
 use Rattle.mapfile_entries.specs.RosterCheck.{entriesAt}
-use Rattle.mapfile_entries.proofs.InTurn.{tiles-start, tiles-end, tiles-on, tiles-stop}
+use Rattle.mapfile_entries.proofs.EntriesInTurn.{tiles-start, tiles-end, tiles-on, tiles-stop}
 use mathlib.Core.Path.{_≡_}
 use Prim.Native.Nat.{_+_, _-_, _*_, _≤_}
 use native.Mathlib.Omega.{arith}

@@ -3,7 +3,7 @@ use borrow.Author.Tests.{lt-leb, le-leb}
 use native.Mathlib.Omega.{arith}
 use Rattle.basics.specs.Choice.{if}
 use Rattle.rights.specs.Rights.{classOf}
-use Rattle.rights.specs.Table.{rowOf}
+use Rattle.rights.specs.Rows.{rowOf}
 use Rattle.rights.proofs.class_of.Statement.{statement}
 use Rattle.rights.proofs.class_of.Tie as tie
 

@@ -1,6 +1,6 @@
 -- `text::put_all` meets its contract. The loop's invariant: the first i bytes are put. Assumes nothing.
-use Rattle.text.specs.Written.{Written}
-use Rattle.text.proofs.WrittenLaws.{written-none, written-next}
+use Rattle.text.specs.PutAt.{PutAt}
+use Rattle.text.proofs.PutAtLaws.{put-at-none, put-at-next}
 use lib.Seq.{take-length}
 use mathlib.Core.Path.{_≡_}
 use Prim.Native.Nat.{_+_, _-_, _≤_}
@@ -11,20 +11,20 @@ use Rattle.text.proofs.put_all.Statement.{statement}
 use Rattle.text.proofs.put_all.Tie as tie
 
 abbrev Inv-loop : tie.InvT-loop
-Inv-loop out₀ at bytes place₀ i₀ out place i = Written (take i bytes) at out₀ place out × (i ≤ length bytes) × (place ≡ at + i)
+Inv-loop out₀ at bytes place₀ i₀ out place i = PutAt (take i bytes) at out₀ place out × (i ≤ length bytes) × (place ≡ at + i)
 
 abbrev μ-loop : tie.MeasureT-loop
 μ-loop out₀ at bytes place₀ i₀ out place i = length bytes - i
 
 loop-holds : tie.Need-loop-holds Inv-loop μ-loop
-loop-holds c = (written-none (c .before .before .args .at) (c .before .before .args .out .now), omega arith, omega arith)
+loop-holds c = (put-at-none (c .before .before .args .at) (c .before .before .args .out .now), omega arith, omega arith)
 
 loop-again : tie.Need-loop-again Inv-loop μ-loop
 loop-again c =
     let l = c .before .before .before .before .before .before .loop in
     let put = c .before .before .put in
     let a = c .before .before .before .before .before .before .before .before .before .args in
-    (written-next (a .bytes .now) (l .i) (omega arith) (l .inv .0) (put .ensures), omega arith, omega (arith, put .ensures .stop))
+    (put-at-next (a .bytes .now) (l .i) (omega arith) (l .inv .0) (put .ensures), omega arith, omega (arith, put .ensures .stop))
 
 returns : tie.Need-returns Inv-loop μ-loop
 returns c =

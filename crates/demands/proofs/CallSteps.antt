@@ -41,7 +41,7 @@ use Rattle.mapfile_read.proofs.ReaderLaws.{Accepted, readOf-valid}
 use Rattle.demands.specs.Calls.{Call, fresh, feed, claim, read, answer, State, Step, PlainStep, step, plainStep, plainFed, afterFresh, afterFeed, afterClaim, afterRead, Begins}
 use Rattle.demands.specs.Demands.{listIn}
 use Rattle.demands.proofs.Kept.{keptBy, Kept, kept-list, kept-length, kept-check, kept-shown}
-use Rattle.demands.proofs.Unscanned.{unscanned-alike}
+use Rattle.demands.proofs.UnscannedAlike.{unscanned-alike}
 
 pub record Agrees (m : ℕ) (p : Step) (q : PlainStep) : Type 0 where
   pub answer : p .answer ≡ q .answer

@@ -14,7 +14,7 @@ use Rattle.tile.specs.Tile.{Tile, highestOrder}
 use Rattle.quadtree.proofs.Alignment.{area-mono, area-pos, size-le}
 use Rattle.quadtree.proofs.Tiling.{tiling-le}
 use Rattle.claim_split.proofs.Place.{place, between-merge-at, apart-at}
-use Rattle.claim_merge.specs.Standing.{Block, Beside, placeOf, parentOf, Stands, Merges}
+use Rattle.claim_merge.specs.Standing.{Block, Beside, quadrantOf, parentOf, Stands, Merges}
 use Rattle.claim_merge.proofs.SiblingsBeside.{rooms}
 
 pub record Turn (length lo hi c k side : ℕ) : Type 0 where
@@ -37,13 +37,13 @@ module _ {g : ℕ → ℕ} {n : ℕ} {ts : List Tile} {a lo hi c k : ℕ} (m : S
   stands-turn h side es j =
       let b = stands-block h in
       let r = rooms c k side es b in
-      let e : c / side % 4 ≡ placeOf c k = ap (λ (x : ℕ). c / x % 4) es in
+      let e : c / side % 4 ≡ quadrantOf c k = ap (λ (x : ℕ). c / x % 4) es in
       record { four = r .four; left = omega (arith, j .left); right = omega (arith, j .right, m .within); less = r .less; small = b .size; some = omega (arith, area-pos k) }
 
   pub stands-up : (side : ℕ) → side ≡ 4 ^ k → Beside ts lo hi c k a → Stands g n ts a (lo - c / side % 4) (hi + (3 - c / side % 4)) (c - c / side % 4 * side) (k + 1)
   stands-up side es j =
-      let h = between-merge-at ts lo hi (omega (arith, m .order, m .within)) (m .within) k a c (placeOf c k) (parentOf c k) (place k c (m .between .on .aligned)) (m .between) (j .left) (j .ahead) (j .behind) in
+      let h = between-merge-at ts lo hi (omega (arith, m .order, m .within)) (m .within) k a c (quadrantOf c k) (parentOf c k) (place k c (m .between .on .aligned)) (m .between) (j .left) (j .ahead) (j .behind) in
       rw (es, add-one k) (record { order = omega (arith, m .order); within = omega (arith, m .within, j .right); between = h })
 
   pub stands-merges : (Beside ts lo hi c k a → ⊥) → Merges g n ts a lo hi c k
-  stands-merges f = record { stands = m; apart = apart-at ts lo hi (omega (arith, m .order, m .within)) (m .within) k a c (placeOf c k) (parentOf c k) (place k c (m .between .on .aligned)) (λ x y z w. f (record { left = x; right = y; ahead = z; behind = w })) }
+  stands-merges f = record { stands = m; apart = apart-at ts lo hi (omega (arith, m .order, m .within)) (m .within) k a c (quadrantOf c k) (parentOf c k) (place k c (m .between .on .aligned)) (λ x y z w. f (record { left = x; right = y; ahead = z; behind = w })) }
