@@ -1,7 +1,7 @@
--- The trailing zeros of a number: the largest power of two that divides it, and so the largest block that ends with a pixel.
+-- The trailing zeros of a number: the largest power of two that divides it, and so the largest block that ends at it.
 --     tz-divides   each power of two up to the trailing zeros divides
 --     tz-odd       what lies above the zeros is odd
---     levels-half  half the trailing zeros of z + 1 are the levels of the pixel z
+--     levels-half  blocks end at e up to the size of half its trailing zeros, and no larger one
 use mathlib.Core.Path.{_≡_, _∙_, refl, ap, sym}
 use Prim.Native.Nat.{ℕ, zero, suc, _+_, _-_, _*_, _/_, _%_, _^_, _<_, _≤_}
 use native.Mathlib.Nat.{mul-one, div-one, pow-suc, pow-succ', div-div-eq-div-mul, mul-left-comm, mul-mod-left, mul-assoc, div-add-mod'}
@@ -63,12 +63,12 @@ module _ (x : ℕ) (pos : 0 < x) (fits : x < 2 ^ 32) where
       let q : x / 2 ^ zeros ≡ t * 2 = ap (λ (y : ℕ). y / 2 ^ zeros) e ∙ shl-shr (t * 2) zeros in
       omega (arith, tz-odd 32 x pos fits)
 
-pub levels-half : (z : ℕ) → z < 4 ^ highestOrder → Levels z (trailingZeros 32 (z + 1) / 2)
-levels-half z h =
-    let l = trailingZeros 32 (z + 1) / 2 in
-    let m = upto (z + 1) (omega arith) (omega arith) l (omega arith) in
+pub levels-half : (e : ℕ) → 0 < e → e ≤ 4 ^ highestOrder → Levels e (trailingZeros 32 e / 2)
+levels-half e pos h =
+    let l = trailingZeros 32 e / 2 in
+    let m = upto e pos (omega arith) l (omega arith) in
     record {
-      few = size-le l highestOrder (omega (arith, aligned-gap (aligned-zero l) m (omega arith)));
+      few = size-le l highestOrder (omega (arith, aligned-gap (aligned-zero l) m pos));
       ends = m;
-      over = past (z + 1) (omega arith) (omega arith) (suc l) (omega arith);
+      over = past e pos (omega arith) (suc l) (omega arith);
     }

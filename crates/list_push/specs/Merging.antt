@@ -1,29 +1,30 @@
--- How a pixel merges with the tiles of the words ahead of it: what the contracts of this crate cite. Definitions only.
---     upTo z a q           the tile of size q and account a that ends with the pixel z
---     Levels z l           blocks end with the pixel z up to the size l, and no larger one
---     EndsWith ts e k a    the list ts ends with the three siblings ahead of the tile of size k and account a that ends at e
+-- How a tile merges with the tiles of the words ahead of it: what the contracts of this crate cite. Definitions only.
+--     upTo t q             the tile of size q and t's account that ends where t ends
+--     Levels e l           blocks end at e up to the size l, and no larger one
+--     EndsWith ts e k a    ts ends with the three siblings ahead of the tile of size k and account a that ends at e
 --     Room s i e k a       such siblings are asked for among the first i words of s
 --     Three s i e k a r    r says whether these words end with them
---     Merged s i z a m     how far the pixel z of account a merges with the first i words: in each raster it goes together with those from
---                          m .at on into the tile of size m .size, and what is left does not end with this tile's siblings
+--     MergedInto s i t m   how far the tile t merges with the first i words: in each raster it goes together with those
+--                          from m .at on into the tile of size m .size, and what is left does not end with this tile's
+--                          siblings
 use mathlib.Core.Path.{_≡_}
 use mathlib.Core.Bool.{Bool, true, false}
 use mathlib.Core.List.{List, _++_}
 use Prim.Native.Nat.{ℕ, suc, _+_, _-_, _*_, _^_, _≤_}
 use lib.ListN.{length, take}
-use Rattle.tile.specs.Tile.{Tile, tile, highestOrder, highestAccount}
+use Rattle.tile.specs.Tile.{Tile, tile, stop, highestOrder, highestAccount}
 use Rattle.tile.specs.Slots.{tiles}
 use Rattle.quadtree.specs.Raster.{Aligned}
 use Rattle.quadtree.specs.Tiling.{tileRun, Between}
 use Rattle.list_push.specs.declared.Top.{Top}
 
-abbrev pub upTo : ℕ → ℕ → ℕ → Tile
-upTo z a q = tile (z + 1 - 4 ^ q) q a
+abbrev pub upTo : Tile → ℕ → Tile
+upTo t q = tile (stop t - 4 ^ q) q (t .account)
 
-pub record Levels (z l : ℕ) : Type 0 where
+pub record Levels (e l : ℕ) : Type 0 where
   pub few : l ≤ highestOrder
-  pub ends : Aligned l (z + 1)
-  pub over : Aligned (suc l) (z + 1) → ⊥
+  pub ends : Aligned l e
+  pub over : Aligned (suc l) e → ⊥
 
 -- the three siblings ahead of a tile end the list
 abbrev pub EndsWith : List Tile → ℕ → ℕ → ℕ → Type 0
@@ -42,9 +43,10 @@ pub record Three (s : List ℕ) (i e k a : ℕ) (r : Bool) : Type 0 where
   pub are : r ≡ true → tiles (take i s) ≡ tiles (take (i - 3) s) ++ tileRun k a 3 (e - 4 * 4 ^ k)
   pub are-not : r ≡ false → EndsWith (tiles (take i s)) e k a → ⊥
 
-pub record Merged (s : List ℕ) (i z a : ℕ) (m : Top) : Type 0 where
+pub record MergedInto (s : List ℕ) (i : ℕ) (t : Tile) (m : Top) : Type 0 where
   pub at : m .at ≤ i
-  pub room : 4 ^ m .size ≤ z + 1
+  pub room : 4 ^ m .size ≤ stop t
   pub few : m .size ≤ highestOrder
-  pub between : (n : ℕ) (g : ℕ → ℕ) (b : List Tile) → Between g n (tiles (take i s)) b (tile z 0 a) → Between g n (tiles (take (m .at) s)) b (upTo z a (m .size))
-  pub ended : Aligned (suc (m .size)) (z + 1) → EndsWith (tiles (take (m .at) s)) (z + 1) (m .size) a → ⊥
+  pub between : (n : ℕ) (g : ℕ → ℕ) (b : List Tile) →
+      Between g n (tiles (take i s)) b t → Between g n (tiles (take (m .at) s)) b (upTo t (m .size))
+  pub ended : Aligned (suc (m .size)) (stop t) → EndsWith (tiles (take (m .at) s)) (stop t) (m .size) (t .account) → ⊥

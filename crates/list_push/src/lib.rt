@@ -1,10 +1,11 @@
-// How a pixel merges with the tiles ahead of it in a tile list: four siblings become one tile, which may be the last of four siblings again.
-ghost use Prim.Native.Nat.{_^_, _<_, _≤_};
+// How a tile merges with the tiles ahead of it in a tile list: four siblings become one tile, which may be the last of
+// four siblings again.
+ghost use Prim.Native.Nat.{_+_, _^_, _≤_};
 ghost use lib.ListN.{length};
-ghost use Rattle.tile.specs.Tile.{highestOrder, highestAccount};
-ghost use Rattle.list_push.specs.Merging.{Levels, Room, Three, Merged};
+ghost use Rattle.tile.specs.Tile.{tile, highestOrder, highestAccount};
+ghost use Rattle.list_push.specs.Merging.{Levels, Room, Three, MergedInto};
 
-// What a pixel becomes when it merges with the words ahead of it: the slot of the tile and its size.
+// What a tile becomes when it merges with the words ahead of it: the slot that it takes, and its size.
 pub struct Top {
     pub at: usize,
     pub size: u32,
@@ -25,24 +26,26 @@ fn siblings(slots: &[u32], top: usize, end: u32, size: u32, account: u8) -> bool
     slots[top - 3] == tile::pack(end - 4 * area, size, account)
 }
 
-// How far the pixel z of an account merges with the words before `front`, where the largest block that ends with z has the size `levels`.
-pub fn merge(slots: &[u32], front: usize, z: u32, levels: u32, account: u8) -> Top
+// How far the tile at `corner` of a size and an account merges with the words before `front`, where the largest block
+// that ends with the tile has the size `levels`.
+pub fn merge(slots: &[u32], front: usize, corner: u32, size: u32, levels: u32, account: u8) -> Top
     requires { ⌜ front ≤ length (now slots) ⌝ }
-    requires { ⌜ (z < 4 ^ highestOrder) × (account ≤ highestAccount) ⌝ }
-    requires { ⌜ Levels z levels ⌝ }
-    ensures { λ r. ⌜ Merged (now (slots .entry)) front z account r ⌝ }
+    requires { ⌜ (corner + 4 ^ size ≤ 4 ^ highestOrder) × (account ≤ highestAccount) ⌝ }
+    requires { ⌜ (size ≤ levels) × Levels (corner + 4 ^ size) levels ⌝ }
+    ensures { λ r. ⌜ MergedInto (now (slots .entry)) front (tile corner size account) r ⌝ }
 {
-    let mut size: u32 = 0;
+    let end = corner + tile::area(size);
+    let mut grown = size;
     let mut at = front;
-    while size < levels {
+    while grown < levels {
         if at < 3 {
-            return Top { at, size };
+            return Top { at, size: grown };
         }
-        if !siblings(slots, at, z + 1, size, account) {
-            return Top { at, size };
+        if !siblings(slots, at, end, grown, account) {
+            return Top { at, size: grown };
         }
         at -= 3;
-        size += 1;
+        grown += 1;
     }
-    Top { at, size }
+    Top { at, size: grown }
 }

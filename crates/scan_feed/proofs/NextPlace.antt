@@ -49,11 +49,11 @@ module _ (n s : ℕ) (h : n ≤ highestOrder) (l : s < 4 ^ n) where
   pub place-sides : (column < 2 ^ highestOrder) × (row < 2 ^ highestOrder)
   place-sides = let big : 2 ^ n ≤ 2 ^ highestOrder = pow-mono h in (omega (arith, column-is, mod-lt s (pow-pos n)), omega (arith, row-below))
 
-  pub place-rows : (k : Kind) (p : Place) → k ≡ Rows → p .z ≡ morton sideBits column row → Levels (morton sideBits column row) (p .levels) → AtPlace k n s p
+  pub place-rows : (k : Kind) (p : Place) → k ≡ Rows → p .z ≡ morton sideBits column row → Levels (morton sideBits column row + 1) (p .levels) → AtPlace k n s p
   unfolding pixelAt
   place-rows k p e q v = record { z = rw e (q ∙ rw column-is (morton-wide n sideBits (s % 2 ^ n) row h (mod-lt s (pow-pos n)) row-below)); levels = rw (← q) at v }
 
-pub place-morton : (k : Kind) (n s : ℕ) (p : Place) → k ≡ Morton → p .z ≡ s → Levels s (p .levels) → AtPlace k n s p
+pub place-morton : (k : Kind) (n s : ℕ) (p : Place) → k ≡ Morton → p .z ≡ s → Levels (s + 1) (p .levels) → AtPlace k n s p
 unfolding pixelAt
 place-morton k n s p e q v = record { z = rw e q; levels = rw (← q) at v }
 

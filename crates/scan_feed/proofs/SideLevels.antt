@@ -1,7 +1,7 @@
 -- The levels of a pixel by its column and its row: the largest powers of two that divide the two, counted from 1, bound the block that ends with it.
 --     aligned-twos   where column and row, counted from 1, are multiples of 2 ^ j, a block of size j ends with the pixel
 --     levels-sides   the smaller count of trailing zeros of the two are the levels of the pixel
--- Not here: the levels by the Morton number (merging, `levels-half`), and that a block gives such a column and row (bed, `column-twos`, `row-twos`).
+-- Not here: the levels by the Morton number (list_push, `levels-half`), and that a block gives such a column and row (bed, `column-twos`, `row-twos`).
 use mathlib.Core.Path.{_≡_, _∙_, ap}
 use Prim.Native.Nat.{ℕ, zero, suc, _+_, _*_, _/_, _%_, _^_, min, _≤_, _<_}
 use native.Mathlib.Nat.{div-add-mod', pow-succ', min-eq-left, min-eq-right}
@@ -59,7 +59,7 @@ module _ (c r : ℕ) (hc : c < 2 ^ highestOrder) (hr : r < 2 ^ highestOrder) whe
   down = trailingZeros 32 (r + 1)
 
   -- a power of two divides both, and the next one not both
-  levels-both : (l : ℕ) → l ≤ across → l ≤ down → (Twos (suc l) (c + 1) → Twos (suc l) (r + 1) → ⊥) → Levels (morton sideBits c r) l
+  levels-both : (l : ℕ) → l ≤ across → l ≤ down → (Twos (suc l) (c + 1) → Twos (suc l) (r + 1) → ⊥) → Levels (morton sideBits c r + 1) l
   levels-both l p q n =
       let z = morton sideBits c r in
       let h = morton-lt sideBits c r in
@@ -70,7 +70,7 @@ module _ (c r : ℕ) (hc : c < 2 ^ highestOrder) (hr : r < 2 ^ highestOrder) whe
         over = λ m. n (rw (column-morton sideBits c r hc) at (column-twos sideBits (suc l) z h m)) (rw (row-morton sideBits c r hr) at (row-twos sideBits (suc l) z h m));
       }
 
-  pub levels-sides : Levels (morton sideBits c r) (min across down)
+  pub levels-sides : Levels (morton sideBits c r + 1) (min across down)
   levels-sides = elim (decLe across down) [
     | yes h ↦ rw (min-eq-left h) (levels-both across (omega arith) h (λ p q. twos-past (c + 1) (omega arith) (omega arith) p))
     | no h ↦ let g : down ≤ across = omega arith in rw (min-eq-right g) (levels-both down g (omega arith) (λ p q. twos-past (r + 1) (omega arith) (omega arith) q))

@@ -28,7 +28,7 @@ use Rattle.scan_feed.specs.declared.Run.{Run}
 
 pub record AtPlace (k : Kind) (n s : ℕ) (p : Place) : Type 0 where
   pub z : p .z ≡ pixelAt k n s
-  pub levels : Levels (p .z) (p .levels)
+  pub levels : Levels (p .z + 1) (p .levels)
 
 -- what a scan in Morton order keeps, so that it needs no search
 abbrev pub Trails : Kind → List ℕ → ℕ → ℕ → ℕ → Type 0

@@ -38,7 +38,7 @@ pub struct Run {
 // and row + 1.
 fn row_levels(column: u32, row: u32) -> u32
     requires { ⌜ (column < 2 ^ highestOrder) × (row < 2 ^ highestOrder) ⌝ }
-    ensures { λ r. ⌜ Levels (morton sideBits column row) r ⌝ }
+    ensures { λ r. ⌜ Levels (morton sideBits column row + 1) r ⌝ }
 {
     let across = u32::trailing_zeros(column + 1);
     let down = u32::trailing_zeros(row + 1);
@@ -48,7 +48,7 @@ fn row_levels(column: u32, row: u32) -> u32
 // The levels of the pixel z: half the trailing zeros of the number behind it.
 fn morton_levels(z: u32) -> u32
     requires { ⌜ z < 4 ^ highestOrder ⌝ }
-    ensures { λ r. ⌜ Levels z r ⌝ }
+    ensures { λ r. ⌜ Levels (z + 1) r ⌝ }
 {
     u32::trailing_zeros(z + 1) / 2
 }

@@ -25,7 +25,7 @@ use Rattle.quadtree.proofs.Siblings.{NoFour, no-four-left, no-four-right}
 use Rattle.quadtree.proofs.ValidLaws.{quadtree-tiling, quadtree-no-four, quadtree-cong}
 use Rattle.quadtree.specs.Tiling.{Between, Apart}
 use Rattle.quadtree.proofs.Merge.{tileRun-front, between-quadtree}
-use Rattle.list_push.specs.Merging.{upTo, Merged}
+use Rattle.list_push.specs.Merging.{upTo, MergedInto}
 use Rattle.list_push.specs.declared.Top.{Top}
 use Rattle.scan_gap.specs.Gap.{held, Fits, Awaits, dotted, PlacedOn, Placed, Pushed, Low, High, Moved}
 use Rattle.scan_gap.specs.declared.Gap.{Gap}
@@ -108,15 +108,15 @@ module _ {n : ℕ} {f : ℕ → ℕ} {z : ℕ} (s : List ℕ) (i b : ℕ) (withi
         on = record { aligned = aligned-unit z; owned = pos; uniform = λ y l h. paint-in f z (z + 1) a y l h };
       }
 
-  module _ (a : ℕ) (pos : 0 < a) (top : Top) (m : Merged s i z a top) where
+  module _ (a : ℕ) (pos : 0 < a) (top : Top) (m : MergedInto s i (tile z 0 a) top) where
     abbrev rest : List Tile
     rest = tiles (drop b s)
 
-    grown : Between (dotted f z a) n (tiles (take (top .at) s)) rest (upTo z a (top .size))
+    grown : Between (dotted f z a) n (tiles (take (top .at) s)) rest (upTo (tile z 0 a) (top .size))
     grown = m .between n (dotted f z a) rest (between-pixel a pos)
 
     -- siblings behind the tile would reach the last pixel of their block, which is nobody's
-    apart : Apart (tiles (take (top .at) s)) rest (upTo z a (top .size))
+    apart : Apart (tiles (take (top .at) s)) rest (upTo (tile z 0 a) (top .size))
     apart j p h r l al e ea eb = elim (decLt j 3) [
       | yes g ↦
           let k = top .size in
@@ -135,14 +135,14 @@ module _ {n : ℕ} {f : ℕ → ℕ} {z : ℕ} (s : List ℕ) (i b : ℕ) (withi
           m .ended (rw (← stops) at (aligned-next al)) (h, p, omega arith, rw three at ea)
     ]
 
-    put-quadtree : tiles (take (top .at) s) ++ upTo z a (top .size) ∷ rest ≡ quadtree n (dotted f z a)
+    put-quadtree : tiles (take (top .at) s) ++ upTo (tile z 0 a) (top .size) ∷ rest ≡ quadtree n (dotted f z a)
     put-quadtree =
         let nf : NoFour (tiles (take i s) ++ rest) = rw (w .is) (quadtree-no-four n f) in
         between-quadtree grown (no-four-first s i (top .at) (m .at) (no-four-left (tiles (take i s)) rest nf)) (no-four-right (tiles (take i s)) rest nf) apart
 
     put-length : b ≤ length s → top .at + 1 + (length s - b) ≡ length (quadtree n (dotted f z a))
     put-length h =
-        rw (← put-quadtree, length-append (tiles (take (top .at) s)) (upTo z a (top .size) ∷ rest), length-map (take (top .at) s) tileOf, length-take-le (top .at) s (omega (arith, m .at)), length-map (drop b s) tileOf, length-drop b s)
+        rw (← put-quadtree, length-append (tiles (take (top .at) s)) (upTo (tile z 0 a) (top .size) ∷ rest), length-map (take (top .at) s) tileOf, length-take-le (top .at) s (omega (arith, m .at)), length-map (drop b s) tileOf, length-drop b s)
         (omega arith)
 
 -- the contract of `put`
@@ -166,7 +166,7 @@ ltb-shift : (m b x y : ℕ) → b ≤ m → y ≡ x + (m - b) → ltb b x ≡ lt
 ltb-shift m b x y h e = elim (decLt b x) [ yes l ↦ lt-ltb b x l ∙ sym (lt-ltb m y (omega arith)) | no l ↦ le-ltb b x (omega arith) ∙ sym (le-ltb m y (omega arith)) ]
 
 module _ (s t u : List ℕ) (i b z a : ℕ) (g : Gap) (p : Outcome) (pos : 0 < a) (st : length t ≡ length s) (tu : length u ≡ length t)
-    (moved : Moved s t i b z g) (pushed : Pushed t u (g .front) (g .back) z a p) where
+    (moved : Moved s t i b z g) (pushed : Pushed t u (g .front) (g .back) (tile z 0 a) p) where
   abbrev list : List Tile
   list = tiles (held s i b)
 
@@ -185,7 +185,7 @@ module _ (s t u : List ℕ) (i b z a : ℕ) (g : Gap) (p : Outcome) (pos : 0 < a
       let l = put-length t (g .front) (g .back) within (moved .low) (moved .high) v a pos (pushed .top) (pushed .merged) (fit .1) in
       record {
         full = pushed .full ∙ ltb-shift (length s) (g .back) (pushed .top .at + 1) (length (quadtree n (dotted f z a))) (omega (arith, fit)) (omega arith);
-        done = λ r. after ∙ rw (pushed .done r, append-assoc (tiles (take (pushed .top .at) t)) (upTo z a (pushed .top .size) ∷ []) (tiles (drop (g .back) t))) q;
+        done = λ r. after ∙ rw (pushed .done r, append-assoc (tiles (take (pushed .top .at) t)) (upTo (tile z 0 a) (pushed .top .size) ∷ []) (tiles (drop (g .back) t))) q;
         kept = λ r. after ∙ rw (pushed .kept r) (sym split);
       }
 

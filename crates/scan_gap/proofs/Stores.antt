@@ -1,4 +1,4 @@
--- A pixel after its merging, as a word of the front part.
+-- A tile after its merging, as a word of the front part.
 --     pushed-full    there is no slot for it
 --     pushed-store   it is stored
 use mathlib.Core.Path.{_≡_, _∙_, refl, ap, sym}
@@ -10,16 +10,16 @@ use native.Mathlib.Omega.{arith}
 use lib.ListN.{length, take, set}
 use lib.Seq.{take-suc-set, drop-set-lt, getD-set-same}
 use borrow.Author.Tests.{lt-ltb, le-ltb}
-use Rattle.tile.specs.Tile.{tileOf, wordOf, highestAccount}
+use Rattle.tile.specs.Tile.{Tile, tileOf, wordOf, highestAccount}
 use Rattle.tile.proofs.TileLaws.{tile-word}
 use Rattle.quadtree.proofs.Alignment.{area-pos}
-use Rattle.list_push.specs.Merging.{upTo, Merged}
+use Rattle.list_push.specs.Merging.{upTo, MergedInto}
 use Rattle.list_push.specs.declared.Top.{Top}
 use Rattle.list_push.proofs.SiblingWords.{true-false}
 use Rattle.scan_gap.specs.Gap.{Pushed}
 
-module _ {s : List ℕ} {i z a : ℕ} {m : Top} (merged : Merged s i z a m) (b : ℕ) (h : i ≤ b) (g : b ≤ length s) where
-  pub pushed-full : m .at ≡ b → Pushed s s i b z a (record { full = true; front = i; back = b })
+module _ {s : List ℕ} {i : ℕ} {x : Tile} {m : Top} (merged : MergedInto s i x m) (b : ℕ) (h : i ≤ b) (g : b ≤ length s) where
+  pub pushed-full : m .at ≡ b → Pushed s s i b x (record { full = true; front = i; back = b })
   pushed-full e = record {
     top = m;
     merged = merged;
@@ -32,11 +32,11 @@ module _ {s : List ℕ} {i z a : ℕ} {m : Top} (merged : Merged s i z a m) (b :
     low = λ l h. omega (arith, l h);
   }
 
-  pub pushed-store : (m .at ≡ b → ⊥) → a ≤ highestAccount → (w : ℕ) → w ≡ wordOf (upTo z a (m .size)) → Pushed s (set s (m .at) w) i b z a (record { full = false; front = m .at + 1; back = b })
+  pub pushed-store : (m .at ≡ b → ⊥) → x .account ≤ highestAccount → (w : ℕ) → w ≡ wordOf (upTo x (m .size)) → Pushed s (set s (m .at) w) i b x (record { full = false; front = m .at + 1; back = b })
   pushed-store e l w q =
       let back = merged .at in
       let inside : m .at < length s = omega arith in
-      let t : tileOf w ≡ upTo z a (m .size) = ap tileOf q ∙ tile-word (upTo z a (m .size)) (omega (arith, merged .few)) l in
+      let t : tileOf w ≡ upTo x (m .size) = ap tileOf q ∙ tile-word (upTo x (m .size)) (omega (arith, merged .few)) l in
       record {
         top = m;
         merged = merged;

@@ -7,7 +7,7 @@
 --     PlacedOn n m g ts us r r says whether m slots are too few for the linear quadtree of g; if they are not, us is this list, else ts again
 --     Placed s t i b z a r   from the slots s to t the pixel z got the account a, or was refused for want of a slot
 -- and in between:
---     Pushed s t i b z a r   what the pixel leaves of the first i words, where the other part starts at b
+--     Pushed s t i b x r     what the tile x leaves of the first i words, where the other part starts at b
 --     Low s i z, High s b z  the last tile of the first part starts ahead of z; the first tile of the other part does not
 --     Moved s t i b z g      the gap moved to the pixel z, and the same words are held
 use mathlib.Core.Path.{_≡_}
@@ -16,11 +16,11 @@ use mathlib.Core.List.{List, [], _∷_, _++_}
 use Prim.Native.Nat.{ℕ, _+_, _-_, _^_, _≤_, _<_}
 use lib.Dec.{ltb}
 use lib.ListN.{length, take, drop, getD}
-use Rattle.tile.specs.Tile.{Tile, tileOf}
+use Rattle.tile.specs.Tile.{Tile, stop, tileOf}
 use Rattle.tile.specs.Slots.{tiles}
 use Rattle.quadtree.specs.Raster.{Aligned, paint}
 use Rattle.quadtree.specs.Quadtree.{quadtree}
-use Rattle.list_push.specs.Merging.{upTo, Merged}
+use Rattle.list_push.specs.Merging.{upTo, MergedInto}
 use Rattle.list_push.specs.declared.Top.{Top}
 use Rattle.scan_gap.specs.declared.Gap.{Gap}
 use Rattle.scan_gap.specs.declared.Outcome.{Outcome}
@@ -54,17 +54,17 @@ Low s i z = 0 < i → tileOf (getD s (i - 1) 0) .corner < z
 abbrev pub High : List ℕ → ℕ → ℕ → Type 0
 High s b z = b < length s → z ≤ tileOf (getD s b 0) .corner
 
--- the pixel is pushed on the first part, or this part has no slot for it
-pub record Pushed (s t : List ℕ) (i b z a : ℕ) (r : Outcome) : Type 0 where
+-- the tile is pushed on the first part, or this part has no slot for it
+pub record Pushed (s t : List ℕ) (i b : ℕ) (x : Tile) (r : Outcome) : Type 0 where
   pub top : Top
-  pub merged : Merged s i z a top
+  pub merged : MergedInto s i x top
   pub fits : r .front ≤ b
   pub there : r .back ≡ b
   pub back : drop b t ≡ drop b s
   pub full : r .full ≡ ltb b (top .at + 1)
-  pub done : r .full ≡ false → tiles (take (r .front) t) ≡ tiles (take (top .at) s) ++ upTo z a (top .size) ∷ []
+  pub done : r .full ≡ false → tiles (take (r .front) t) ≡ tiles (take (top .at) s) ++ upTo x (top .size) ∷ []
   pub kept : r .full ≡ true → tiles (take (r .front) t) ≡ tiles (take i s)
-  pub low : Low s i z → Low t (r .front) (z + 1)
+  pub low : Low s i (x .corner) → Low t (r .front) (stop x)
 
 pub record Moved (s t : List ℕ) (i b z : ℕ) (g : Gap) : Type 0 where
   pub fits : Fits t (g .front) (g .back)

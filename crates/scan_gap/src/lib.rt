@@ -4,7 +4,7 @@ ghost use mathlib.Core.Path.{_≡_};
 ghost use mathlib.Core.List.{_++_};
 ghost use Prim.Native.Nat.{_+_, _-_, _^_, _<_, _≤_};
 ghost use lib.ListN.{length, getD, replicate};
-ghost use Rattle.tile.specs.Tile.{tileOf, highestOrder, highestAccount};
+ghost use Rattle.tile.specs.Tile.{tile, tileOf, highestOrder, highestAccount};
 ghost use Rattle.list_push.specs.Merging.{Levels};
 ghost use Rattle.scan_gap.specs.Gap.{held, Fits, Placed, Pushed, Low, Moved};
 
@@ -21,17 +21,25 @@ pub struct Outcome {
     pub back: usize,
 }
 
-// Puts the pixel z of an account behind the front part, where a slot is free for the tile that is left after merging. It merges over at most
-// `levels` levels: the largest block that ends with z has this size.
-fn push(slots: &mut [u32], front: usize, back: usize, z: u32, levels: u32, account: u8) -> Outcome
+// Puts the tile at `corner` of a size and an account behind the front part, where a slot is free for the tile that is
+// left after merging. It merges up to the size `levels`: the largest block that ends with it has this size.
+fn push(
+    slots: &mut [u32],
+    front: usize,
+    back: usize,
+    corner: u32,
+    size: u32,
+    levels: u32,
+    account: u8,
+) -> Outcome
     requires { ⌜ Fits (now slots) front back ⌝ }
-    requires { ⌜ (z < 4 ^ highestOrder) × (account ≤ highestAccount) ⌝ }
-    requires { ⌜ Levels z levels ⌝ }
-    ensures { λ r. ⌜ Pushed (now (slots .entry)) (now (slots .exit)) front back z account r ⌝ }
+    requires { ⌜ (corner + 4 ^ size ≤ 4 ^ highestOrder) × (account ≤ highestAccount) ⌝ }
+    requires { ⌜ (size ≤ levels) × Levels (corner + 4 ^ size) levels ⌝ }
+    ensures { λ r. ⌜ Pushed (now (slots .entry)) (now (slots .exit)) front back (tile corner size account) r ⌝ }
 {
-    let top = list_push::merge(slots, front, z, levels, account);
+    let top = list_push::merge(slots, front, corner, size, levels, account);
     let at = top.at;
-    let size = top.size;
+    let grown = top.size;
     if at == back {
         return Outcome {
             full: true,
@@ -39,7 +47,8 @@ fn push(slots: &mut [u32], front: usize, back: usize, z: u32, levels: u32, accou
             back,
         };
     }
-    slots[at] = tile::pack(z + 1 - tile::area(size), size, account);
+    let end = corner + tile::area(size);
+    slots[at] = tile::pack(end - tile::area(grown), grown, account);
     Outcome {
         full: false,
         front: at + 1,
@@ -109,23 +118,23 @@ pub fn put(
 ) -> Outcome
     requires { ⌜ Fits (now slots) front back ⌝ }
     requires { ⌜ (z < 4 ^ highestOrder) × (0 < account) × (account ≤ highestAccount) ⌝ }
-    requires { ⌜ Levels z levels ⌝ }
+    requires { ⌜ Levels (z + 1) levels ⌝ }
     ensures { λ r. ⌜ Placed (now (slots .entry)) (now (slots .exit)) front back z account r ⌝ }
 {
     let g = seek(slots, front, back, z);
-    push(slots, g.front, g.back, z, levels, account)
+    push(slots, g.front, g.back, z, 0, levels, account)
 }
 
 // The same where all the words lie in the front part and their tiles start ahead of z, so that nothing is searched.
 pub fn append(slots: &mut [u32], front: usize, z: u32, levels: u32, account: u8) -> Outcome
     requires { ⌜ (front ≤ length (now slots)) × Low (now slots) front z ⌝ }
     requires { ⌜ (z < 4 ^ highestOrder) × (0 < account) × (account ≤ highestAccount) ⌝ }
-    requires { ⌜ Levels z levels ⌝ }
+    requires { ⌜ Levels (z + 1) levels ⌝ }
     ensures { λ r. ⌜ Placed (now (slots .entry)) (now (slots .exit)) front (length (now (slots .entry))) z account r ⌝ }
     ensures { λ r. ⌜ (r .back ≡ length (now (slots .exit))) × Low (now (slots .exit)) (r .front) (z + 1) ⌝ }
 {
     let back = slots.len();
-    push(slots, front, back, z, levels, account)
+    push(slots, front, back, z, 0, levels, account)
 }
 
 // Moves the back part down to the front part, and sets the rest of the slots to 0.

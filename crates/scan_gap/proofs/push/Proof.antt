@@ -9,14 +9,17 @@ use Rattle.scan_gap.proofs.push.Tie as tie
 returns : tie.Need-returns
 returns c = pushed-full (c .before .merge .ensures) (c .before .before .before .before .args .back) (omega arith) (omega arith) (c .if1 .taken)
 
-pack-requires : tie.Need-pack-requires
-pack-requires c κs = (omega (arith, c .area .ensures, c .before .before .merge .ensures .room, area-pos (c .before .before .merge .result .size)), omega (arith, c .before .before .merge .ensures .few), omega arith)
-
 returns-2 : tie.Need-returns-2
 returns-2 c =
-    let e = c .before .area .ensures in
+    let d = c .before .before .area .ensures in
+    let e = c .before .area2 .ensures in
     let p = c .pack .ensures in
-    pushed-store (c .before .before .before .merge .ensures) (c .before .before .before .before .before .before .args .back) (omega arith) (omega arith) (c .before .before .if1 .left) (c .before .before .before .before .before .before .pre .1 .0 .1) _ (cc)
+    pushed-store (c .before .before .before .before .merge .ensures) (c .before .before .before .before .before .before .before .args .back) (omega arith) (omega arith) (c .before .before .before .if1 .left) (c .before .before .before .before .before .before .before .pre .1 .0 .1) _ (cc)
+
+pack-requires : tie.Need-pack-requires
+pack-requires c κs =
+    let m = c .before .before .before .merge in
+    (omega (arith, c .before .area .ensures, c .area2 .ensures, c .before .before .before .before .before .before .pre .1 .0 .0, m .ensures .room, area-pos (m .result .size)), omega (arith, m .ensures .few), omega arith)
 
 pub push-spec : {M : Type 1} → statement M
-push-spec = tie.close (tie.spec (λ c κs. search needs) (λ c. search needs) returns (λ c. search needs) (λ c κs. search needs) (λ c. search needs) pack-requires (λ c. search needs) (λ c. search needs) (λ c. search needs) (λ c. search needs) returns-2)
+push-spec = tie.close (tie.spec (λ c κs. search needs) (λ c. search needs) returns (λ c κs. search needs) (λ c. search needs) (λ c κs. search needs) (λ c. search needs) pack-requires (λ c. search needs) (λ c. search needs) (λ c. search needs) (λ c. search needs) returns-2)

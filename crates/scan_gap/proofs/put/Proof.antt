@@ -1,5 +1,6 @@
 -- The pixel is pushed where the gap lies.
 use Rattle.scan_gap.proofs.Pixel.{placed-pushed}
+use native.Mathlib.Omega.{arith}
 use borrow.Author.Needs.{needs}
 use Rattle.scan_gap.proofs.put.Statement.{statement}
 use Rattle.scan_gap.proofs.put.Tie as tie
@@ -11,5 +12,8 @@ returns c =
     let p = c .before .before .push in
     placed-pushed _ _ _ _ _ _ _ (g .result) (p .result) (s .pre .1 .0 .1) (g .kept .0) (p .kept .0) (g .ensures) (p .ensures)
 
+push-requires : tie.Need-push-requires
+push-requires c κs = (c .before .before .before .seek .ensures .fits, ((omega arith, c .before .before .before .before .before .before .pre .1 .0 .2), (omega arith, c .before .before .before .before .before .before .pre .1 .1)))
+
 pub put-spec : {M : Type 1} → statement M
-put-spec = tie.close (tie.spec (λ c κs. search needs) (λ c κs. search needs) (λ c. search needs) returns)
+put-spec = tie.close (tie.spec (λ c κs. search needs) push-requires (λ c. search needs) returns)
