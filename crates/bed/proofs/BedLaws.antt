@@ -26,7 +26,7 @@ use Rattle.quadtree.proofs.Shown.{paint-in, paint-out}
 use Rattle.quadtree.proofs.ValidLaws.{quadtree-cong}
 use Rattle.bed.specs.declared.Kind.{Kind}
 use Rattle.bed.specs.Places.{pixelAt}
-use Rattle.bed.specs.Bed.{Bed, bedOf, Fed, stopped, putPixel, pixelCheck, feedPixels, blockIn, claimed, claimCheck}
+use Rattle.bed.specs.Bed.{Bed, bedOf, BedFed, stopped, putPixel, pixelCheck, feedPixels, blockIn, claimed, claimCheck}
 
 pub test-blockIn : (n c k : ℕ) → Test ((k ≤ n) × ((c < 4 ^ n) × Aligned k c)) (blockIn n c k)
 unfolding blockIn
@@ -63,7 +63,7 @@ pub record Good (m n s : ℕ) (f : ℕ → ℕ) : Type 0 where
   pub accounts : Accounts n f
   pub room : length (quadtree n f) ≤ m
 
-pub record FedAlike (m : ℕ) (k : Kind) (n : ℕ) (p q : Fed) : Type 0 where
+pub record FedAlike (m : ℕ) (k : Kind) (n : ℕ) (p q : BedFed) : Type 0 where
   pub number : p .number ≡ q .number
   pub taken : p .taken ≡ q .taken
   pub scanned : ℕ
@@ -129,4 +129,4 @@ pub feedPixels-room : (m k : ℕ) (b : Bed) (bytes : List ℕ) → Room m b → 
 unfolding feedPixels putPixel
 feedPixels-room m k b [] h = h
 feedPixels-room m k b (a ∷ bytes) h =
-    by-unless (λ (r : Fed). Room m (r .bed)) (pixelCheck m b a) (λ r. h) (λ e. feedPixels-room m (k + 1) (putPixel b a) bytes (pixelCheck-passed e .room))
+    by-unless (λ (r : BedFed). Room m (r .bed)) (pixelCheck m b a) (λ r. h) (λ e. feedPixels-room m (k + 1) (putPixel b a) bytes (pixelCheck-passed e .room))

@@ -6,7 +6,7 @@
 --     putPixel b a            the account a put on the next place
 --     isAccount a             the number a is that of an account, nobody's or somebody's
 --     pixelCheck m b a        23, 24, 25 of the account a on the next place of the bed b, with m slots
---     Fed                     what a feed answers, with the bed that it leaves
+--     BedFed                     what a feed answers, with the bed that it leaves
 --     feedPixels m k b bytes   the accounts in turn, k taken before, up to the first that is refused
 --     feedBed m b bytes        the feed of a bed with m slots: 22, then the accounts
 --     blockIn n c k           the block of size k at the corner c is a quadrant of a bed of order n
@@ -55,19 +55,19 @@ pixelCheck m b a =
     (must (isAccount a) accountTooLarge
     (must (leb (length (quadtree (b .order) (putPixel b a .account))) m) slotsExceeded accepted))
 
-pub record Fed : Type 0 where
+pub record BedFed : Type 0 where
   pub number : ℕ
   pub taken : ℕ
   pub bed : Bed
 
-abbrev pub stopped : ℕ → ℕ → Bed → Fed
+abbrev pub stopped : ℕ → ℕ → Bed → BedFed
 stopped r k b = record { number = r; taken = k; bed = b }
 
-unfoldable pub feedPixels : ℕ → ℕ → Bed → List ℕ → Fed
+unfoldable pub feedPixels : ℕ → ℕ → Bed → List ℕ → BedFed
 feedPixels m k b [] = stopped accepted k b
 feedPixels m k b (a ∷ bytes) = unless (pixelCheck m b a) (λ number. stopped number k b) (feedPixels m (k + 1) (putPixel b a) bytes)
 
-unfoldable pub feedBed : ℕ → Bed → List ℕ → Fed
+unfoldable pub feedBed : ℕ → Bed → List ℕ → BedFed
 feedBed m b bytes = if (hasUnscanned b) (stopped tileUnscanned 0 b) (feedPixels m 0 b bytes)
 
 unfoldable pub blockIn : ℕ → ℕ → ℕ → Bool

@@ -9,7 +9,7 @@ use lib.ListN.{take, drop, getD}
 use Rattle.refusal.specs.Refusal.{accepted, tileUnscanned, scanFull, accountTooLarge, slotsExceeded}
 use Rattle.bed.specs.declared.Kind.the-variants.{Rows}
 use Rattle.bed.specs.Places.{rows}
-use Rattle.bed.specs.Bed.{Bed, bedOf, Fed, freshBed, feedBed, claimed, claimCheck}
+use Rattle.bed.specs.Bed.{Bed, bedOf, BedFed, freshBed, feedBed, claimed, claimCheck}
 
 -- bed M, order 2, by Morton number and by rows
 abbrev pub bedM : ℕ → ℕ
@@ -22,10 +22,10 @@ rowsM = 5 ∷ 5 ∷ 0 ∷ 0 ∷ 5 ∷ 5 ∷ 0 ∷ 9 ∷ 9 ∷ 0 ∷ 9 ∷ 9 ∷ 
 abbrev pub claimedEarly : Bed
 claimedEarly = bedOf Rows 2 4 (claimed (λ z. 0) 3 0 5)
 
-abbrev pub rowScan : ℕ → ℕ → List ℕ → Fed
+abbrev pub rowScan : ℕ → ℕ → List ℕ → BedFed
 rowScan n m bytes = feedBed m (freshBed Rows n) bytes
 
-abbrev pub Says : Fed → ℕ → ℕ → Type 0
+abbrev pub Says : BedFed → ℕ → ℕ → Type 0
 Says r number taken = (r .number ≡ number) × (r .taken ≡ taken)
 
 pub record PlainLines : Type 0 where

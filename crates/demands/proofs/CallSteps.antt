@@ -111,7 +111,7 @@ module _ (m : ℕ) (b : Bed) (w : Good m (b .order) (b .scanned) (b .account)) (
   fed-alike : FedAlike m (b .kind) (b .order) (feedPixels m 0 (bedOf (b .kind) (b .order) (b .scanned) (accountAt (listIn (keptBy m b)))) bytes) (feedPixels m 0 b bytes)
   fed-alike = feedPixels-alike m (b .kind) (b .order) 0 (b .scanned) (accountAt (listIn (keptBy m b))) (b .account) bytes (kept-shown b w) w
 
-  fed-kept : {p q : bed.Fed} → FedAlike m (b .kind) (b .order) p q → Agrees m (afterFeed (fedTo m p)) (plainFed q)
+  fed-kept : {p q : bed.BedFed} → FedAlike m (b .kind) (b .order) p q → Agrees m (afterFeed (fedTo m p)) (plainFed q)
   unfolding afterFeed fedTo
   fed-kept {p} {q} f = record {
     answer = λ i. answer (f .number i) (f .taken i);

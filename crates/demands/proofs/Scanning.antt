@@ -22,7 +22,7 @@ use Rattle.quadtree.proofs.Shown.{paint-in, paint-out}
 use Rattle.quadtree.proofs.ValidLaws.{quadtree-cong}
 use Rattle.bed.specs.declared.Kind.{Kind}
 use Rattle.bed.specs.Places.{scanOf, placeOf, pixelAt}
-use Rattle.bed.specs.Bed.{Bed, bedOf, Fed, stopped, putPixel, pixelCheck, feedPixels, feedBed, hasUnscanned}
+use Rattle.bed.specs.Bed.{Bed, bedOf, BedFed, stopped, putPixel, pixelCheck, feedPixels, feedBed, hasUnscanned}
 use Rattle.bed.proofs.PlaceLaws.{placeOf-pixelAt, pixelAt-placeOf}
 use Rattle.bed.proofs.BedLaws.{Agree, Good, put, put-good, pixelCheck-passed, FedAlike, feedPixels-alike}
 use Rattle.scan.specs.FreshScan.{freshOf}
@@ -67,7 +67,7 @@ module _ (k : Kind) (n : ℕ) where
       go (above l) = out (λ q. omega arith) ∙ List·getD-eq-default px 0 {n = placeOf k n y} (omega arith) ∙ sym (List·getD-eq-default (px ++ a ∷ []) 0 {n = placeOf k n y} (omega (arith, long)))
 
   -- what a feed of some bytes leaves, where j pixels were taken before
-  record Took (px bytes : List ℕ) (j : ℕ) (r : Fed) : Type 0 where
+  record Took (px bytes : List ℕ) (j : ℕ) (r : BedFed) : Type 0 where
     count : ℕ
     taken : r .taken ≡ j + count
     within : count ≤ length bytes
@@ -78,7 +78,7 @@ module _ (k : Kind) (n : ℕ) where
   took-none : (number j : ℕ) (px bytes : List ℕ) → Took px bytes j (stopped number j (scanBed k n px))
   took-none number j px bytes = record { count = 0; taken = omega arith; within = omega arith; raster = scanRaster k n px; bed = rw (append-nil px); agree = λ z h. rw (append-nil px) }
 
-  took-more : (m j a : ℕ) (px bytes : List ℕ) {p q : Fed} → FedAlike m k n p q → Took (px ++ a ∷ []) bytes (j + 1) q → Took px (a ∷ bytes) j p
+  took-more : (m j a : ℕ) (px bytes : List ℕ) {p q : BedFed} → FedAlike m k n p q → Took (px ++ a ∷ []) bytes (j + 1) q → Took px (a ∷ bytes) j p
   took-more m j a px bytes {p} {q} f t = record {
     count = suc (t .count);
     taken = f .taken ∙ t .taken ∙ (omega arith);

@@ -94,7 +94,7 @@ pub record PlainStep : Type 0 where
 abbrev pub plainly : Bed → ℕ → Bed → PlainStep
 plainly b r next = record { answer = answer r 0; bed = unless r (λ number. b) next }
 
-abbrev pub plainFed : bed.Fed → PlainStep
+abbrev pub plainFed : bed.BedFed → PlainStep
 plainFed r = record { answer = answer (r .number) (r .taken); bed = r .bed }
 
 abbrev pub claimedBed : Bed → ℕ → ℕ → ℕ → Bed

@@ -52,7 +52,7 @@ module _ (m : ℕ) where
       ((b .scanned ≡ 4 ^ b .order → ⊥) → feedPixels m (k + 1) (putPixel b a) some ≡ feedPixels m (k + 1) (putPixel b a) all) →
       feedPixels m k b (a ∷ some) ≡ feedPixels m k b (a ∷ all)
   unfolding feedPixels
-  pixel-read k b a some all rest = unless-alike (λ (p q : bed.Fed). p ≡ q) (pixelCheck m b a) (λ r. refl) (λ e. rest (pixelCheck-passed e .going))
+  pixel-read k b a some all rest = unless-alike (λ (p q : bed.BedFed). p ≡ q) (pixelCheck m b a) (λ r. refl) (λ e. rest (pixelCheck-passed e .going))
 
   feedPixels-read : (k j : ℕ) (b : Bed) (bytes : List ℕ) → b .scanned ≤ 4 ^ b .order → 4 ^ b .order < b .scanned + j →
       feedPixels m k b (take j bytes) ≡ feedPixels m k b bytes
@@ -152,7 +152,7 @@ feedOf-fits n slots bytes l =
     (λ number. lines-fit n number 0 (length slots) [] (omega arith) (λ t i. absurd (List·Memᴰ·not-nil i)))
     (λ q. fed (feedPixels-alike (length slots) Rows n 0 0 _ _ bytes (λ z h. refl) (blank-good (length slots) n slots (omega arith))))
   where
-    fed : {p : bed.Fed} → FedAlike (length slots) Rows n p p → Fits (length slots) (fedListing (fedTo (length slots) p))
+    fed : {p : bed.BedFed} → FedAlike (length slots) Rows n p p → Fits (length slots) (fedListing (fedTo (length slots) p))
     fed {p} a = rw (a .second-bed) (good-fits (length slots) n (a .scanned) (a .second) (a .good) l (p .number) (p .taken))
 
 scanned-fits : (n : ℕ) (accounts : List ℕ) → n ≤ listedOrder → Fits listedSlots (fedListing (scanned n accounts))

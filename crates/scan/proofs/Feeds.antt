@@ -25,7 +25,7 @@ use Rattle.scan_gap.specs.Gap.{held}
 use Rattle.scan_gap.proofs.Parts.{held-length}
 use Rattle.scan_feed.specs.Shown.{shownBed}
 use Rattle.scan_feed.specs.Feeding.{FedTo}
-use Rattle.scan_feed.specs.declared.Run.{Run}
+use Rattle.scan_feed.specs.declared.AfterPixels.{AfterPixels}
 use Rattle.scan.specs.FreshScan.{freshOf}
 use Rattle.scan_check.specs.Opening.{opening}
 use Rattle.scan.specs.Feed.{fedTo, feedOf}
@@ -33,14 +33,14 @@ use Rattle.scan.specs.declared.Fresh.{Fresh}
 use Rattle.scan.specs.declared.Fed.{Fed}
 
 module _ (c : Scan) (slots bytes : List ℕ) where
-  abbrev plain : bed.Fed
+  abbrev plain : bed.BedFed
   plain = bed.feedPixels (length slots) 0 (shownBed c slots) bytes
 
   pub feed-refused : (r : ℕ) → r ≡ opening c slots → (r ≡ accepted → ⊥) → _≡_ {A = After Fed} (record { answer = record { number = r; taken = 0; scan = c }; storage = slots }) (feedOf c slots bytes)
   unfolding feedOf
   feed-refused r e h = rw e (sym (unless-off (opening c slots) _ _ (λ q. h (e ∙ q))))
 
-  module _ (t v : List ℕ) (r : Run) (fed : FedTo c plain t r) (st : length t ≡ length slots) (sv : length v ≡ length slots)
+  module _ (t v : List ℕ) (r : AfterPixels) (fed : FedTo c plain t r) (st : length t ≡ length slots) (sv : length v ≡ length slots)
       (closed : v ≡ held t (r .front) (r .back) ++ replicate (r .back - r .front) 0) where
     abbrev ts : List Tile
     ts = quadtree (plain .bed .order) (plain .bed .account)

@@ -16,7 +16,7 @@ use Rattle.scan_feed.specs.Shown.{shownBed}
 use Rattle.scan.specs.declared.Fed.{Fed}
 
 -- the answer and the m slots, of what the plain bed gives
-unfoldable pub fedTo : ℕ → bed.Fed → After Fed
+unfoldable pub fedTo : ℕ → bed.BedFed → After Fed
 fedTo m r =
     let ts : List Tile = quadtree (r .bed .order) (r .bed .account) in
     record {

@@ -23,8 +23,8 @@ use Rattle.bed.specs.Bed as bed
 use Rattle.list_push.specs.Merging.{Levels}
 use Rattle.scan_gap.specs.Gap.{held, Fits, Low}
 use Rattle.scan_feed.specs.declared.Place.{Place}
-use Rattle.scan_feed.specs.declared.Step.{Step}
-use Rattle.scan_feed.specs.declared.Run.{Run}
+use Rattle.scan_feed.specs.declared.AfterPixel.{AfterPixel}
+use Rattle.scan_feed.specs.declared.AfterPixels.{AfterPixels}
 
 pub record AtPlace (k : Kind) (n s : ℕ) (p : Place) : Type 0 where
   pub z : p .z ≡ pixelAt k n s
@@ -44,12 +44,12 @@ pub record SteppedOn (m : ℕ) (b : bed.Bed) (a r : ℕ) (ts us : List Tile) : T
   pub done : r ≡ accepted → us ≡ quadtree (b .order) (bed.putPixel b a .account)
   pub kept : (r ≡ accepted → ⊥) → us ≡ ts
 
-pub record Stepped (k : Kind) (n p a : ℕ) (s t : List ℕ) (i b : ℕ) (r : Step) : Type 0 where
+pub record Stepped (k : Kind) (n p a : ℕ) (s t : List ℕ) (i b : ℕ) (r : AfterPixel) : Type 0 where
   pub fits : Fits t (r .front) (r .back)
   pub trails : Trails k t (r .front) (r .back) (p + 1)
   pub on : (f : ℕ → ℕ) → Holds k n p f (tiles (held s i b)) → SteppedOn (length s) (bed.bedOf k n p f) a (r .number) (tiles (held s i b)) (tiles (held t (r .front) (r .back)))
 
-pub record FedTo (c : Scan) (e : bed.Fed) (t : List ℕ) (r : Run) : Type 0 where
+pub record FedTo (c : Scan) (e : bed.BedFed) (t : List ℕ) (r : AfterPixels) : Type 0 where
   pub number : r .number ≡ e .number
   pub taken : r .taken ≡ e .taken
   pub pixels : r .pixels ≡ e .bed .scanned

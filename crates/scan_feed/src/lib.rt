@@ -19,14 +19,14 @@ pub struct Place {
 }
 
 // What one account leaves: its refusal, or that it is accepted, and where the list has its gap.
-pub struct Step {
+pub struct AfterPixel {
     pub number: u32,
     pub front: usize,
     pub back: usize,
 }
 
 // What a feed leaves: its refusal, the count taken, the pixels scanned, and where the list has its gap.
-pub struct Run {
+pub struct AfterPixels {
     pub number: u32,
     pub taken: usize,
     pub pixels: u32,
@@ -98,10 +98,10 @@ fn put_next(
 }
 
 // What an account leaves, by what its checks say.
-fn leaves(said: u32, front: usize, back: usize) -> Step
+fn leaves(said: u32, front: usize, back: usize) -> AfterPixel
     ensures { λ r. ⌜ r ≡ record { number = said; front = front; back = back } ⌝ }
 {
-    Step {
+    AfterPixel {
         number: said,
         front,
         back,
@@ -117,7 +117,7 @@ fn feed_pixel(
     order: u32,
     pixels: u32,
     account: u8,
-) -> Step
+) -> AfterPixel
     requires { ⌜ Fits (now slots) front back × Trails kind (now slots) front back pixels ⌝ }
     requires { ⌜ (order ≤ highestOrder) × (pixels ≤ 4 ^ order) ⌝ }
     ensures { λ r. ⌜ Stepped kind order pixels account (now (slots .entry)) (now (slots .exit)) front back r ⌝ }
@@ -139,7 +139,7 @@ fn feed_pixel(
 }
 
 // Feeds the accounts in turn to a list that passed the opening checks, up to the first that is refused.
-pub fn feed_all(scan: bed::Scan, slots: &mut [u32], accounts: &[u8]) -> Run
+pub fn feed_all(scan: bed::Scan, slots: &mut [u32], accounts: &[u8]) -> AfterPixels
     requires { ⌜ Opened scan (now slots) ⌝ }
     ensures { λ r. ⌜ FedTo scan (feedPixels (length (now (slots .entry))) 0 (shownBed scan (now (slots .entry))) (now (accounts .entry))) (now (slots .exit)) r ⌝ }
 {
@@ -155,7 +155,7 @@ pub fn feed_all(scan: bed::Scan, slots: &mut [u32], accounts: &[u8]) -> Run
         back = step.back;
         let number = step.number;
         if number != refusal::ACCEPTED {
-            return Run {
+            return AfterPixels {
                 number,
                 taken,
                 pixels,
@@ -166,7 +166,7 @@ pub fn feed_all(scan: bed::Scan, slots: &mut [u32], accounts: &[u8]) -> Run
         pixels += 1;
         taken += 1;
     }
-    Run {
+    AfterPixels {
         number: refusal::ACCEPTED,
         taken,
         pixels,

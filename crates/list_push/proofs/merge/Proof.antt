@@ -25,10 +25,19 @@ returns c =
 returns-2 : tie.Need-returns-2 Inv-loop μ-loop
 returns-2 c =
     let l = c .before .before .before .before .loop in
-    merged-other (c .before .before .before .before .before .before .before .pre .1 .1 .1) (l .inv .1) (l .inv .0) (rw (c .before .before .before .before .before .area .ensures) at (c .before .siblings .ensures .are-not (not-true _ (c .if2 .taken))))
+    let p = c .before .before .before .before .before .before .before .pre in
+    let area = c .before .before .before .before .before .area in
+    merged-other (p .1 .1 .1) (l .inv .1) (l .inv .0) (rw (area .ensures) at (c .before .siblings .ensures .are-not (not-true _ (c .if2 .taken))))
 
 loop-again : tie.Need-loop-again Inv-loop μ-loop
-loop-again c = (omega arith, grown-more (c .before .before .before .before .before .before .before .pre .1 .1 .1) (c .before .before .before .before .loop .inv .1) (omega arith) (omega arith) (rw (c .before .before .before .before .before .area .ensures) at (c .before .siblings .ensures .are (not-false _ (c .if2 .left)))))
+loop-again c =
+    let p = c .before .before .before .before .before .before .before .pre in
+    let l = c .before .before .before .before .loop in
+    let area = c .before .before .before .before .before .area in (
+      omega arith,
+      grown-more (p .1 .1 .1) (l .inv .1) (omega arith) (omega arith) (rw (area .ensures) at (c .before .siblings .ensures .are (not-false
+          _ (c .if2 .left)))),
+    )
 
 returns-3 : tie.Need-returns-3 Inv-loop μ-loop
 returns-3 c =
@@ -39,9 +48,24 @@ siblings-requires : tie.Need-siblings-requires Inv-loop μ-loop
 siblings-requires c κs =
     let l = c .before .before .loop in
     let a = c .before .before .before .before .before .args in
-    let p = c .before .before .before .before .before .pre .1 in
-    let e = c .before .before .before .area .ensures in
-    record { long = omega arith; within = omega (arith, l .inv .1 .back); room = omega (arith, sibling-room (tile (a .corner) (a .size) (a .account)) (l .grown) (p .1 .1) (omega arith)); inside = omega (arith, p .0); few = omega (arith, p .1 .1 .few); low = p .0 .1 }
+    let pre = c .before .before .before .before .before .pre in
+    let area = c .before .before .before .area in
+    let p = pre .1 in
+    let e = area .ensures in
+    record {
+      long = omega arith;
+      within = omega (arith, l .inv .1 .back);
+      room = omega (
+        arith,
+        sibling-room (tile (a .corner) (a .size) (a .account))
+            (l .grown) (p .1 .1) (omega arith),
+      );
+      inside = omega (arith, p .0);
+      few = omega (arith, p .1 .1 .few);
+      low = p .0 .1;
+    }
 
 pub merge-spec : {M : Type 1} → statement M
-merge-spec = tie.close (tie.spec Inv-loop μ-loop (λ c κs. search needs) (λ c. search needs) loop-holds returns siblings-requires returns-2 (λ c. search needs) (λ c. search needs) loop-again returns-3)
+merge-spec =
+    tie.close (tie.spec Inv-loop μ-loop (λ c κs. search needs) (λ c. search needs) loop-holds returns siblings-requires returns-2 (λ c. search needs)
+    (λ c. search needs) loop-again returns-3)

@@ -20,7 +20,9 @@ returns c =
 pack-requires-2 : tie.Need-pack-requires-2
 pack-requires-2 c κs =
     let p = c .before .before .before .before .before .before .pre in
-    (omega (arith, c .before .before .before .before .area .ensures, area-pos (c .before .before .before .before .before .before .args .size), p .room, p .inside), p .few, p .low)
+    let area = c .before .before .before .before .area in
+    let a = c .before .before .before .before .before .before .args in
+    (omega (arith, area .ensures, area-pos (a .size), p .room, p .inside), p .few, p .low)
 
 returns-2 : tie.Need-returns-2
 returns-2 c =
@@ -31,15 +33,25 @@ returns-2 c =
 pack-requires-3 : tie.Need-pack-requires-3
 pack-requires-3 c κs =
     let p = c .before .before .before .before .before .before .before .before .before .pre in
-    (omega (arith, c .before .before .before .before .before .before .before .area .ensures, area-pos (c .before .before .before .before .before .before .before .before .before .args .size), p .room, p .inside), p .few, p .low)
+    let area = c .before .before .before .before .before .before .before .area in
+    let a = c .before .before .before .before .before .before .before .before .before .args in
+    (omega (arith, area .ensures, area-pos (a .size), p .room, p .inside), p .few, p .low)
 
 returns-3 : tie.Need-returns-3
 returns-3 c =
-    let e = c .before .before .before .before .before .before .before .before .area .ensures in
-    let f = c .before .before .before .before .before .before .pack .ensures in
-    let g = c .before .before .before .pack2 .ensures in
+    let area = c .before .before .before .before .before .before .before .before .area in
+    let pack = c .before .before .before .before .before .before .pack in
+    let pack2 = c .before .before .before .pack2 in
+    let p = c .before .before .before .before .before .before .before .before .before .before .pre in
+    let if1 = c .before .before .before .before .before .if1 in
+    let e = area .ensures in
+    let f = pack .ensures in
+    let g = pack2 .ensures in
     let h = c .pack3 .ensures in
-    three-last (c .before .before .before .before .before .before .before .before .before .before .pre) _ (let i = c .before .before .before .before .before .if1 .left in cc) (let i = c .before .before .if2 .left in cc) (cc)
+    three-last (p) _ (let i = if1 .left in cc) (let i = c .before .before .if2 .left in cc) (cc)
 
 pub siblings-spec : {M : Type 1} → statement M
-siblings-spec = tie.close (tie.spec (λ c κs. search needs) (λ c. search needs) (λ c. search needs) (λ c. search needs) (λ c. search needs) (λ c. search needs) pack-requires returns (λ c. search needs) (λ c. search needs) (λ c. search needs) (λ c. search needs) (λ c. search needs) pack-requires-2 returns-2 (λ c. search needs) (λ c. search needs) (λ c. search needs) (λ c. search needs) (λ c. search needs) pack-requires-3 returns-3)
+siblings-spec =
+    tie.close (tie.spec (λ c κs. search needs) (λ c. search needs) (λ c. search needs) (λ c. search needs) (λ c. search needs) (λ c. search needs)
+    pack-requires returns (λ c. search needs) (λ c. search needs) (λ c. search needs) (λ c. search needs) (λ c. search needs) pack-requires-2
+    returns-2 (λ c. search needs) (λ c. search needs) (λ c. search needs) (λ c. search needs) (λ c. search needs) pack-requires-3 returns-3)

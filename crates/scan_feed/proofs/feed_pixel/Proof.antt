@@ -1,5 +1,5 @@
 -- The checks in turn, and the pixel put.
-use Rattle.scan_feed.proofs.Steps.{stepped-full, stepped-account, stepped-nobody, stepped-slots, stepped-done}
+use Rattle.scan_feed.proofs.PixelSteps.{stepped-full, stepped-account, stepped-nobody, stepped-slots, stepped-done}
 use native.Mathlib.Omega.{arith}
 use borrow.Author.Needs.{needs}
 use Rattle.scan_feed.proofs.feed_pixel.Statement.{statement}
@@ -25,21 +25,35 @@ returns-3 c =
 put-next-requires : tie.Need-put-next-requires
 put-next-requires c κs =
     let p = c .before .before .before .before .before .before .pre in
-    (p .0, ((p .1 .0, omega (arith, c .before .before .before .before .area .ensures, p .1 .1, c .before .before .before .if1 .left)), (omega arith, omega arith)))
+    let area = c .before .before .before .before .area in
+    let if1 = c .before .before .before .if1 in
+    (p .0, ((p .1 .0, omega (arith, area .ensures, p .1 .1, if1 .left)), (omega arith, omega arith)))
 
 returns-4 : tie.Need-returns-4
 returns-4 c =
-    let p = c .before .before .before .before .before .before .before .before .before .before .before .pre .0 in
-    let e = c .before .before .before .before .before .before .before .before .before .area .ensures in
-    let r = c .before .before .before .before .put-next in
-    rw (c .leaves4 .ensures) (stepped-slots _ _ _ _ _ _ _ (p .0) (p .1) (λ q. omega (arith, e, c .before .before .before .before .before .before .before .before .if1 .left)) (omega arith) _ (r .result) (r .ensures .0) (r .ensures .1) (c .before .if4 .taken))
+    let pre = c .before .before .before .before .before .before .before .before .before .before .before .pre in
+    let area = c .before .before .before .before .before .before .before .before .before .area in
+    let put-next = c .before .before .before .before .put-next in
+    let if1 = c .before .before .before .before .before .before .before .before .if1 in
+    let p = pre .0 in
+    let e = area .ensures in
+    let r = put-next in
+    rw (c .leaves4 .ensures) (stepped-slots _ _ _ _ _ _ _ (p .0) (p .1) (λ q. omega (arith, e, if1 .left)) (omega arith) _ (r .result) (r .ensures .0)
+    (r .ensures .1) (c .before .if4 .taken))
 
 returns-5 : tie.Need-returns-5
 returns-5 c =
-    let p = c .before .before .before .before .before .before .before .before .before .before .before .pre .0 in
-    let e = c .before .before .before .before .before .before .before .before .before .area .ensures in
-    let r = c .before .before .before .before .put-next in
-    rw (c .leaves5 .ensures) (stepped-done _ _ _ _ _ _ _ (p .0) (p .1) (λ q. omega (arith, e, c .before .before .before .before .before .before .before .before .if1 .left)) (omega arith) _ (r .result) (r .ensures .0) (r .ensures .1) (c .before .if4 .left))
+    let pre = c .before .before .before .before .before .before .before .before .before .before .before .pre in
+    let area = c .before .before .before .before .before .before .before .before .before .area in
+    let put-next = c .before .before .before .before .put-next in
+    let if1 = c .before .before .before .before .before .before .before .before .if1 in
+    let p = pre .0 in
+    let e = area .ensures in
+    let r = put-next in
+    rw (c .leaves5 .ensures) (stepped-done _ _ _ _ _ _ _ (p .0) (p .1) (λ q. omega (arith, e, if1 .left)) (omega arith) _ (r .result) (r .ensures .0)
+    (r .ensures .1) (c .before .if4 .left))
 
 pub feed-pixel-spec : {M : Type 1} → statement M
-feed-pixel-spec = tie.close (tie.spec (λ c κs. search needs) (λ c κs. search needs) returns (λ c κs. search needs) returns-2 (λ c κs. search needs) returns-3 put-next-requires (λ c κs. search needs) (λ c. search needs) returns-4 (λ c κs. search needs) (λ c. search needs) returns-5)
+feed-pixel-spec =
+    tie.close (tie.spec (λ c κs. search needs) (λ c κs. search needs) returns (λ c κs. search needs) returns-2 (λ c κs. search needs) returns-3
+    put-next-requires (λ c κs. search needs) (λ c. search needs) returns-4 (λ c κs. search needs) (λ c. search needs) returns-5)

@@ -10,19 +10,32 @@ use Rattle.scan_feed.proofs.next_place.Statement.{statement}
 use Rattle.scan_feed.proofs.next_place.Tie as tie
 
 sub-column : tie.Need-sub-column
-sub-column c = omega (arith, place-shift (c .before .before .args .order) (c .before .before .args .pixels) (c .before .before .pre .0) (c .before .before .pre .1))
+sub-column c =
+    let a = c .before .before .args in
+    let p = c .before .before .pre in
+    omega (arith, place-shift (a .order) (a .pixels) (p .0) (p .1))
 
 row-levels-requires : tie.Need-row-levels-requires
-row-levels-requires c κs = place-sides (c .before .before .before .args .order) (c .before .before .before .args .pixels) (c .before .before .before .pre .0) (c .before .before .before .pre .1)
+row-levels-requires c κs =
+    let a = c .before .before .before .args in
+    let p = c .before .before .before .pre in
+    place-sides (a .order) (a .pixels) (p .0) (p .1)
 
 morton-levels-requires : tie.Need-morton-levels-requires
 morton-levels-requires c κs = let big : 4 ^ c .before .before .args .order ≤ 4 ^ highestOrder = area-mono (c .before .before .pre .0) in omega arith
 
 returns : tie.Need-returns
-returns c = place-rows (c .before .before .before .before .args .order) (c .before .before .before .before .args .pixels) (c .before .before .before .before .pre .0) (c .before .before .before .before .pre .1) _ _ (c .before .before .enum-told .given .1) (c .before .number .ensures) (c .row-levels .ensures)
+returns c =
+    let a = c .before .before .before .before .args in
+    let p = c .before .before .before .before .pre in
+    place-rows (a .order) (a .pixels) (p .0) (p .1) _ _ (c .before .before .enum-told .given .1) (c .before .number .ensures) (c .row-levels .ensures)
 
 returns-2 : tie.Need-returns-2
-returns-2 c = place-morton (c .before .before .before .args .kind) (c .before .before .before .args .order) (c .before .before .before .args .pixels) _ (c .before .enum-told2 .given .1) refl (c .morton-levels .ensures)
+returns-2 c =
+    let a = c .before .before .before .args in
+    place-morton (a .kind) (a .order) (a .pixels) _ (c .before .enum-told2 .given .1) refl (c .morton-levels .ensures)
 
 pub next-place-spec : {M : Type 1} → statement M
-next-place-spec = tie.close (tie.spec (λ c. search needs) (λ c. search needs) (λ c. search needs) sub-column (λ c κs. search needs) row-levels-requires (λ c. search needs) morton-levels-requires returns returns-2)
+next-place-spec =
+    tie.close (tie.spec (λ c. search needs) (λ c. search needs) (λ c. search needs) sub-column (λ c κs. search needs) row-levels-requires (λ c. search
+    needs) morton-levels-requires returns returns-2)

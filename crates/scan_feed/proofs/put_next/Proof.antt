@@ -23,17 +23,40 @@ returns-2 c =
 
 put-requires : tie.Need-put-requires
 put-requires c κs =
+    let next-place = c .before .before .before .next-place in
     let s = c .before .before .before .before .before in
-    let q = c .before .before .before .next-place .ensures in
-    (s .pre .0 .0, ((place-low (s .args .kind) (s .args .order) (s .args .pixels) _ (s .pre .1 .0 .0) (s .pre .1 .0 .1) (q .z), s .pre .1 .1 .0, s .pre .1 .1 .1), q .levels))
+    let q = next-place .ensures in (
+      s .pre .0 .0,
+      (
+        (
+          place-low (s .args .kind) (s .args .order) (s .args .pixels) _ (s .pre .1 .0 .0) (s .pre .1 .0 .1) (q .z),
+          s .pre .1 .1 .0,
+          s .pre .1 .1 .1,
+        ),
+        q .levels,
+      ),
+    )
 
 append-requires : tie.Need-append-requires
 append-requires c κs =
+    let next-place = c .before .before .before .next-place in
     let s = c .before .before .before .before .before in
-    let q = c .before .before .before .next-place .ensures in
+    let q = next-place .ensures in
     let m = c .before .enum-told2 .given .1 in
-    let z = q .z ∙ place-next (s .args .kind) (s .args .order) (s .args .pixels) m in
-    ((omega (arith, s .pre .0 .0), rw (sym z) at (s .pre .0 .1 m .1)), ((place-low (s .args .kind) (s .args .order) (s .args .pixels) _ (s .pre .1 .0 .0) (s .pre .1 .0 .1) (q .z), s .pre .1 .1 .0, s .pre .1 .1 .1), q .levels))
+    let z = q .z ∙ place-next (s .args .kind) (s .args .order) (s .args .pixels) m in (
+      (omega (arith, s .pre .0 .0), rw (sym z) at (s .pre .0 .1 m .1)),
+      (
+        (
+          place-low (s .args .kind) (s .args .order) (s .args .pixels) _
+              (s .pre .1 .0 .0) (s .pre .1 .0 .1) (q .z),
+          s .pre .1 .1 .0,
+          s .pre .1 .1 .1,
+        ),
+        q .levels,
+      ),
+    )
 
 pub put-next-spec : {M : Type 1} → statement M
-put-next-spec = tie.close (tie.spec (λ c κs. search needs) (λ c. search needs) put-requires (λ c. search needs) append-requires (λ c. search needs) returns (λ c. search needs) returns-2)
+put-next-spec =
+    tie.close (tie.spec (λ c κs. search needs) (λ c. search needs) put-requires (λ c. search needs) append-requires (λ c. search needs) returns (λ c.
+    search needs) returns-2)

@@ -12,4 +12,6 @@ returns c =
     advanced _ _ _ _ _ (p .0) _ _ refl (p .1 .0) (p .1 .1) (c .before .before .before .before .reach .ensures) (m .kept .0) (m .ensures)
 
 pub advance-spec : {M : Type 1} → statement M
-advance-spec = tie.close (tie.spec (λ c. search needs) (λ c κs. search needs) (λ c. search needs) (λ c κs. search needs) (λ c. search needs) (λ c. search needs) returns)
+advance-spec =
+    tie.close (tie.spec (λ c. search needs) (λ c κs. search needs) (λ c. search needs) (λ c κs. search needs) (λ c. search needs) (λ c. search needs)
+    returns)

@@ -13,11 +13,19 @@ returns c =
     let s = c .before .before .before .before .before in
     let p = c .before .before .push in
     let a = s .args in
-    let g = stayed (a .slots .now) (a .front) (length (a .slots .now)) (a .z) (s .pre .0 .0, omega arith) (s .pre .0 .1) (λ h. absurd (omega arith)) in
-    (placed-pushed _ _ _ _ _ _ _ _ (p .result) (s .pre .1 .0 .1) refl (p .kept .0) g (p .ensures), (p .ensures .there ∙ sym (p .kept .0), p .ensures .low (s .pre .0 .1)))
+    let g = stayed (a .slots .now) (a .front) (length (a .slots .now)) (a .z) (s .pre .0 .0, omega arith) (s .pre .0 .1) (λ h. absurd (omega arith))
+    in (
+      placed-pushed _ _ _ _ _ _ _ _ (p .result) (s .pre .1 .0 .1) refl (p .kept .0) g (p .ensures),
+      (
+        p .ensures .there ∙ sym (p .kept .0),
+        p .ensures .low (s .pre .0 .1),
+      ),
+    )
 
 push-requires : tie.Need-push-requires
-push-requires c κs = ((omega (arith, c .before .before .pre .0 .0), omega arith), ((omega arith, c .before .before .pre .1 .0 .2), (omega arith, c .before .before .pre .1 .1)))
+push-requires c κs =
+    let p = c .before .before .pre in
+    ((omega (arith, p .0 .0), omega arith), ((omega arith, p .1 .0 .2), (omega arith, p .1 .1)))
 
 pub append-spec : {M : Type 1} → statement M
 append-spec = tie.close (tie.spec push-requires (λ c. search needs) returns)

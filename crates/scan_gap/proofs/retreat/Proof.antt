@@ -12,4 +12,6 @@ returns c =
     retreated _ _ _ _ _ (p .0) _ _ refl (p .1 .0) (p .1 .1) (c .before .before .before .before .cut .ensures) (m .kept .0) (m .ensures)
 
 pub retreat-spec : {M : Type 1} → statement M
-retreat-spec = tie.close (tie.spec (λ c. search needs) (λ c κs. search needs) (λ c. search needs) (λ c κs. search needs) (λ c. search needs) (λ c. search needs) returns)
+retreat-spec =
+    tie.close (tie.spec (λ c. search needs) (λ c κs. search needs) (λ c. search needs) (λ c κs. search needs) (λ c. search needs) (λ c. search needs)
+    returns)

@@ -27,9 +27,9 @@ use Rattle.scan_gap.proofs.Parts.{held-front}
 use Rattle.scan_feed.specs.Shown.{shownBed}
 use Rattle.scan_check.specs.Opened.{Opened}
 use Rattle.scan_feed.specs.Feeding.{Trails, Holds, SteppedOn, Stepped, FedTo}
-use Rattle.scan_feed.specs.declared.Step.{Step}
+use Rattle.scan_feed.specs.declared.AfterPixel.{AfterPixel}
 use Rattle.scan_feed.proofs.NextPlace.{holds-next}
-use Rattle.scan_feed.proofs.Steps.{check-full}
+use Rattle.scan_feed.proofs.PixelSteps.{check-full}
 
 module _ (m k : ℕ) (b : bed.Bed) (a : ℕ) (bytes : List ℕ) where
   pixel-stop : (bed.pixelCheck m b a ≡ accepted → ⊥) → bed.feedPixels m k b (a ∷ bytes) ≡ bed.stopped (bed.pixelCheck m b a) k b
@@ -81,7 +81,7 @@ module _ {c : Scan} {slots bytes : List ℕ} {k p : ℕ} {s : List ℕ} {i b : �
       let d : drop k bytes ≡ [] = rw e (drop-length bytes) in
       rw (w .same, d) (record { number = refl; taken = refl; pixels = refl; kind = refl; order = refl; fits = w .fits; list = w .holds .is })
 
-  module _ (h : k < length bytes) (a : ℕ) (ea : a ≡ getD bytes k 0) (t : List ℕ) (r : Step) (step : Stepped (c .kind) (c .order) p a s t i b r) where
+  module _ (h : k < length bytes) (a : ℕ) (ea : a ≡ getD bytes k 0) (t : List ℕ) (r : AfterPixel) (step : Stepped (c .kind) (c .order) p a s t i b r) where
     split : drop k bytes ≡ a ∷ drop (k + 1) bytes
     split = rw (ea, add-one k) (drop-cons bytes k 0 h)
 
