@@ -2,3 +2,4 @@
 pub mod InTurn
 pub mod ReaderLaws
 pub mod Stores
+pub mod Examining

@@ -6,7 +6,8 @@ ghost use lib.ListN.{length, drop};
 ghost use Rattle.refusal.specs.Checks.{After};
 ghost use Rattle.tile.specs.Tile.{highestOrder};
 ghost use Rattle.mapfile_bytes.specs.Items.{wordsAt};
-ghost use Rattle.mapfile_read.specs.Reader.{tilesCheck, fileCheck, readOf};
+ghost use Rattle.mapfile_read.specs.Reader.{tilesCheck, readOf};
+ghost use Rattle.mapfile_read.specs.Examined.{refusedWith, examined};
 
 // The reader's answer: the order and the tile count of the list read.
 #[repr(C)]
@@ -40,30 +41,49 @@ fn words(order: u32, tiles: usize, file: &[u8]) -> u32
     refusal::ACCEPTED
 }
 
+// The answer of a refusal.
+fn refused(number: u32) -> Reading
+    ensures { λ r. ⌜ r ≡ refusedWith number ⌝ }
+{
+    Reading {
+        number,
+        order: 0,
+        tiles: 0,
+    }
+}
+
 // Every check of a file for a number of slots. The tile count is tested before anything is computed of it.
-fn examine(slots: usize, file: &[u8]) -> u32
-    ensures { λ r. ⌜ r ≡ fileCheck slots (now (file .entry)) ⌝ }
+fn examine(slots: usize, file: &[u8]) -> Reading
+    ensures { λ r. ⌜ r ≡ examined slots (now (file .entry)) ⌝ }
 {
     if file.len() < 1 {
-        return refusal::FILE_CUT_SHORT;
+        return refused(refusal::FILE_CUT_SHORT);
     }
     let order = mapfile_bytes::wide(file[0]);
     if tile::HIGHEST_ORDER < order {
-        return refusal::ORDER_TOO_LARGE;
+        return refused(refusal::ORDER_TOO_LARGE);
     }
     if file.len() < 5 {
-        return refusal::FILE_CUT_SHORT;
+        return refused(refusal::FILE_CUT_SHORT);
     }
     let tiles = mapfile_bytes::long(mapfile_bytes::word_at(file, 1));
     if slots < tiles {
-        return refusal::SLOTS_EXCEEDED;
+        return refused(refusal::SLOTS_EXCEEDED);
     }
-    let refused = words(order, tiles, file);
-    if refused != refusal::ACCEPTED {
-        return refused;
+    let listed = words(order, tiles, file);
+    if listed != refusal::ACCEPTED {
+        return refused(listed);
     }
     let at = 5 + 4 * tiles;
-    mapfile_entries::check(order, tiles, file, &file[at..])
+    let roster = mapfile_entries::check(order, tiles, file, &file[at..]);
+    if roster != refusal::ACCEPTED {
+        return refused(roster);
+    }
+    Reading {
+        number: refusal::ACCEPTED,
+        order,
+        tiles,
+    }
 }
 
 // The words of the file into the slots.
@@ -84,21 +104,12 @@ fn store(tiles: usize, file: &[u8], slots: &mut [u32])
 pub fn read(file: &[u8], slots: &mut [u32]) -> Reading
     ensures { λ r. ⌜ _≡_ {A = After Reading} (record { answer = r; storage = now (slots .exit) }) (readOf (now (file .entry)) (now (slots .entry))) ⌝ }
 {
-    let number = examine(slots.len(), file);
-    if number != refusal::ACCEPTED {
-        return Reading {
-            number,
-            order: 0,
-            tiles: 0,
-        };
+    let reading = examine(slots.len(), file);
+    if reading.number != refusal::ACCEPTED {
+        return reading;
     }
-    let order = mapfile_bytes::wide(file[0]);
-    let tiles = mapfile_bytes::long(mapfile_bytes::word_at(file, 1));
+    let tiles = reading.tiles;
     store(tiles, file, slots);
     list_words::clear_from(slots, tiles);
-    Reading {
-        number: refusal::ACCEPTED,
-        order,
-        tiles,
-    }
+    reading
 }

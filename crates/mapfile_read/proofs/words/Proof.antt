@@ -28,13 +28,15 @@ returns-2 : tie.Need-returns-2 Inv-loop μ-loop
 returns-2 c =
     let l = c .before .before .before .before .before .loop in
     let g = l .inv .2 in
-    going-stop _ _ _ _ _ g (omega arith) (omega arith) _ (c .before .before .word-at .ensures) (c .before .step .ensures (g .seen) (g .knows)) (c .if2 .taken)
+    let s = c .before .step .ensures (g .seen) (g .knows) in
+    going-stop _ _ _ _ _ g (omega arith) (omega arith) _ (c .before .before .word-at .ensures) s (c .if2 .taken)
 
 loop-again : tie.Need-loop-again Inv-loop μ-loop
 loop-again c =
     let l = c .before .before .before .before .before .before .loop in
     let g = l .inv .2 in
-    (search needs, search needs, going-on _ _ _ _ _ g (omega arith) (omega arith) _ (c .before .before .before .word-at .ensures) (c .before .before .step .ensures (g .seen) (g .knows)) (c .before .if2 .left))
+    let s = c .before .before .step .ensures (g .seen) (g .knows) in
+    (search needs, search needs, going-on _ _ _ _ _ g (omega arith) (omega arith) _ (c .before .before .before .word-at .ensures) s (c .before .if2 .left))
 
 returns-3 : tie.Need-returns-3 Inv-loop μ-loop
 returns-3 c =
@@ -42,4 +44,7 @@ returns-3 c =
     going-end _ _ _ (l .i) (l .p) (l .inv .2) (omega arith)
 
 pub words-spec : {M : Type 1} → statement M
-words-spec = tie.close (tie.spec Inv-loop μ-loop (λ c κs. search needs) loop-holds (λ c. search needs) returns (λ c κs. search needs) step-requires returns-2 (λ c. search needs) (λ c. search needs) (λ c. search needs) loop-again returns-3)
+words-spec =
+    tie.close
+    (tie.spec Inv-loop μ-loop (λ c κs. search needs) loop-holds (λ c. search needs) returns (λ c κs. search needs) step-requires returns-2 (λ c. search needs)
+    (λ c. search needs) (λ c. search needs) loop-again returns-3)
