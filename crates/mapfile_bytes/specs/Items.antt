@@ -4,10 +4,11 @@
 use mathlib.Core.List.{List, [], _∷_}
 use Prim.Native.Nat.{ℕ, zero, suc, _+_, _*_}
 use lib.ListN.{getD}
+use Rattle.mapfile_bytes.specs.Layout.{wordLength}
 
 unfoldable pub wordAt : List ℕ → ℕ → ℕ
 wordAt bs p = ((getD bs p 0 * 256 + getD bs (p + 1) 0) * 256 + getD bs (p + 2) 0) * 256 + getD bs (p + 3) 0
 
 unfoldable pub wordsAt : ℕ → List ℕ → ℕ → List ℕ
 wordsAt zero bs p = []
-wordsAt (suc t) bs p = wordAt bs p ∷ wordsAt t bs (p + 4)
+wordsAt (suc t) bs p = wordAt bs p ∷ wordsAt t bs (p + wordLength)

@@ -1,2 +1,3 @@
--- The numbers in the bytes of a map file.
+-- The layout of a map file, and the numbers in its bytes.
+pub mod Layout
 pub mod Items

@@ -2,12 +2,13 @@
 ghost use mathlib.Core.Path.{_≡_};
 ghost use mathlib.Core.Bool.{_||_};
 ghost use mathlib.Core.List.{map};
-ghost use Prim.Native.Nat.{_+_, _*_, _≤_};
+ghost use Prim.Native.Nat.{_+_, _≤_};
 ghost use lib.Dec.{ltb, eqb};
 ghost use lib.ListN.{length, getD};
 ghost use Rattle.basics.specs.Choice.{if};
 ghost use Rattle.tile.specs.Tile.{tileOf, highestOrder};
 ghost use Rattle.quadtree.specs.Valid.{Valid};
+ghost use Rattle.mapfile_bytes.specs.Layout.{wordsPlace, rosterPlace, entriesPlace, entryLength, rosterLength};
 ghost use Rattle.mapfile_bytes.specs.Items.{wordAt, wordsAt};
 ghost use Rattle.mapfile_roster.specs.Roster.{covered, listed, entryGood, entriesGood, tilesListed, rosterGood};
 ghost use Rattle.mapfile_roster.specs.Accounts.{has, SetOf};
@@ -15,16 +16,16 @@ ghost use Rattle.mapfile_entries.specs.RosterCheck.{entriesAt, rosterChe
 
 // The pixels that an account covers.
 fn total(account: u8, order: u32, tiles: usize, file: &[u8]) -> u32
-    requires { ⌜ (order ≤ highestOrder) × (5 + 4 * tiles ≤ length (now file)) × Valid order (map tileOf (wordsAt tiles (now file) 5)) ⌝ }
-    ensures { λ r. ⌜ r ≡ covered account (map tileOf (wordsAt tiles (now (file .entry)) 5)) ⌝ }
+    requires { ⌜ (order ≤ highestOrder) × (rosterPlace tiles ≤ length (now file)) × Valid order (map tileOf (wordsAt tiles (now file) wordsPlace)) ⌝ }
+    ensures { λ r. ⌜ r ≡ covered account (map tileOf (wordsAt tiles (now (file .entry)) wordsPlace)) ⌝ }
 {
     let mut sum = 0;
     let mut i = 0;
-    let mut p = 5;
+    let mut p = mapfile_bytes::WORDS_PLACE;
     while i < tiles {
         sum += mapfile_roster::share(account, mapfile_bytes::word_at(file, p));
         i += 1;
-        p += 4;
+        p += mapfile_bytes::WORD_LENGTH;
     }
     sum
 }
@@ -41,16 +42,16 @@ fn same(a: u8, b: u8) -> usize
 
 // How many of the entries of a section are the account's.
 fn entries_of(account: u8, entries: usize, section: &[u8]) -> usize
-    requires { ⌜ 1 + 5 * entries ≤ length (now section) ⌝ }
-    ensures { λ r. ⌜ r ≡ listed account (entriesAt entries (now (section .entry)) 1) ⌝ }
+    requires { ⌜ rosterLength entries ≤ length (now section) ⌝ }
+    ensures { λ r. ⌜ r ≡ listed account (entriesAt entries (now (section .entry)) entriesPlace) ⌝ }
 {
     let mut sum = 0;
     let mut j = 0;
-    let mut p = 1;
+    let mut p = mapfile_bytes::ENTRIES_PLACE;
     while j < entries {
         sum += same(section[p], account);
         j += 1;
-        p += 5;
+        p += mapfile_bytes::ENTRY_LENGTH;
     }
     sum
 }
@@ -64,8 +65,8 @@ fn entry_good(
     section: &[u8],
     p: usize,
 ) -> bool
-    requires { ⌜ (order ≤ highestOrder) × (5 + 4 * tiles ≤ length (now file)) × Valid order (map tileOf (wordsAt tiles (now file) 5)) × (1 + 5 * entries ≤ length (now section)) × (p + 5 ≤ length (now section)) ⌝ }
-    ensures { λ r. ⌜ r ≡ entryGood (map tileOf (wordsAt tiles (now (file .entry)) 5)) (entriesAt entries (now (section .entry)) 1) (record { account = getD (now (section .entry)) p 0; pixels = wordAt (now (section .entry)) (p + 1) }) ⌝ }
+    requires { ⌜ (order ≤ highestOrder) × (rosterPlace tiles ≤ length (now file)) × Valid order (map tileOf (wordsAt tiles (now file) wordsPlace)) × (rosterLength entries ≤ length (now section)) × (p + entryLength ≤ length (now section)) ⌝ }
+    ensures { λ r. ⌜ r ≡ entryGood (map tileOf (wordsAt tiles (now (file .entry)) wordsPlace)) (entriesAt entries (now (section .entry)) entriesPlace) (record { account = getD (now (section .entry)) p 0; pixels = wordAt (now (section .entry)) (p + 1) }) ⌝ }
 {
     let account = section[p];
     let pixels = total(account, order, tiles, file);
@@ -83,18 +84,18 @@ fn entry_good(
 
 // Every entry does.
 fn entries_good(order: u32, tiles: usize, file: &[u8], entries: usize, section: &[u8]) -> bool
-    requires { ⌜ (order ≤ highestOrder) × (5 + 4 * tiles ≤ length (now file)) × Valid order (map tileOf (wordsAt tiles (now file) 5)) × (1 + 5 * entries ≤ length (now section)) ⌝ }
-    ensures { λ r. ⌜ r ≡ entriesGood (map tileOf (wordsAt tiles (now (file .entry)) 5)) (entriesAt entries (now (section .entry)) 1) (entriesAt entries (now (section .entry)) 1) ⌝ }
+    requires { ⌜ (order ≤ highestOrder) × (rosterPlace tiles ≤ length (now file)) × Valid order (map tileOf (wordsAt tiles (now file) wordsPlace)) × (rosterLength entries ≤ length (now section)) ⌝ }
+    ensures { λ r. ⌜ r ≡ entriesGood (map tileOf (wordsAt tiles (now (file .entry)) wordsPlace)) (entriesAt entries (now (section .entry)) entriesPlace) (entriesAt entries (now (section .entry)) entriesPlace) ⌝ }
 {
     let mut j = 0;
-    let mut p = 1;
+    let mut p = mapfile_bytes::ENTRIES_PLACE;
     while j < entries {
         let good = entry_good(order, tiles, file, entries, section, p);
         if !good {
             return false;
         }
         j += 1;
-        p += 5;
+        p += mapfile_bytes::ENTRY_LENGTH;
     }
     true
 }
@@ -111,42 +112,42 @@ fn with_entry(set: u64, account: u8) -> u64
 
 // The set of the accounts that have entries: one pass over the entries.
 fn named(entries: usize, section: &[u8]) -> u64
-    requires { ⌜ 1 + 5 * entries ≤ length (now section) ⌝ }
-    ensures { λ r. ⌜ SetOf (λ a. ltb 0 (listed a (entriesAt entries (now (section .entry)) 1))) r ⌝ }
+    requires { ⌜ rosterLength entries ≤ length (now section) ⌝ }
+    ensures { λ r. ⌜ SetOf (λ a. ltb 0 (listed a (entriesAt entries (now (section .entry)) entriesPlace))) r ⌝ }
 {
     let mut set = 0;
     let mut j = 0;
-    let mut p = 1;
+    let mut p = mapfile_bytes::ENTRIES_PLACE;
     while j < entries {
         set = with_entry(set, section[p]);
         j += 1;
-        p += 5;
+        p += mapfile_bytes::ENTRY_LENGTH;
     }
     set
 }
 
 // Each tile's account has an entry.
 fn tiles_listed(tiles: usize, file: &[u8], entries: usize, section: &[u8]) -> bool
-    requires { ⌜ (5 + 4 * tiles ≤ length (now file)) × (1 + 5 * entries ≤ length (now section)) ⌝ }
-    ensures { λ r. ⌜ r ≡ tilesListed (entriesAt entries (now (section .entry)) 1) (map tileOf (wordsAt tiles (now (file .entry)) 5)) ⌝ }
+    requires { ⌜ (rosterPlace tiles ≤ length (now file)) × (rosterLength entries ≤ length (now section)) ⌝ }
+    ensures { λ r. ⌜ r ≡ tilesListed (entriesAt entries (now (section .entry)) entriesPlace) (map tileOf (wordsAt tiles (now (file .entry)) wordsPlace)) ⌝ }
 {
     let set = named(entries, section);
     let mut i = 0;
-    let mut p = 5;
+    let mut p = mapfile_bytes::WORDS_PLACE;
     while i < tiles {
         if !mapfile_roster::has(set, tile::account(mapfile_bytes::word_at(file, p))) {
             return false;
         }
         i += 1;
-        p += 4;
+        p += mapfile_bytes::WORD_LENGTH;
     }
     true
 }
 
 // The entries of a section are the roster of the tiles.
 fn roster_good(order: u32, tiles: usize, file: &[u8], entries: usize, section: &[u8]) -> bool
-    requires { ⌜ (order ≤ highestOrder) × (5 + 4 * tiles ≤ length (now file)) × Valid order (map tileOf (wordsAt tiles (now file) 5)) × (1 + 5 * entries ≤ length (now section)) ⌝ }
-    ensures { λ r. ⌜ r ≡ rosterGood (map tileOf (wordsAt tiles (now (file .entry)) 5)) (entriesAt entries (now (section .entry)) 1) ⌝ }
+    requires { ⌜ (order ≤ highestOrder) × (rosterPlace tiles ≤ length (now file)) × Valid order (map tileOf (wordsAt tiles (now file) wordsPlace)) × (rosterLength entries ≤ length (now section)) ⌝ }
+    ensures { λ r. ⌜ r ≡ rosterGood (map tileOf (wordsAt tiles (now (file .entry)) wordsPlace)) (entriesAt entries (now (section .entry)) entriesPlace) ⌝ }
 {
     let good = entries_good(order, tiles, file, entries, section);
     if !good {
@@ -157,8 +158,8 @@ fn roster_good(order: u32, tiles: usize, file: &[u8], entries: usize, section: &
 
 // The first refusal of the roster section of a file whose words are a valid list, or that it is accepted.
 pub fn check(order: u32, tiles: usize, file: &[u8], section: &[u8]) -> u32
-    requires { ⌜ (order ≤ highestOrder) × (5 + 4 * tiles ≤ length (now file)) × Valid order (map tileOf (wordsAt tiles (now file) 5)) ⌝ }
-    ensures { λ r. ⌜ r ≡ rosterCheck (map tileOf (wordsAt tiles (now (file .entry)) 5)) (now (section .entry)) ⌝ }
+    requires { ⌜ (order ≤ highestOrder) × (rosterPlace tiles ≤ length (now file)) × Valid order (map tileOf (wordsAt tiles (now file) wordsPlace)) ⌝ }
+    ensures { λ r. ⌜ r ≡ rosterCheck (map tileOf (wordsAt tiles (now (file .entry)) wordsPlace)) (now (section .entry)) ⌝ }
 {
     if section.len() < 1 {
         return refusal::FILE_CUT_SHORT;

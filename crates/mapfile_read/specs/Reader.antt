@@ -4,9 +4,9 @@
 --     fileOrder, fileCount, fileWords   the items of a file
 --     readOf bs slots           the offered call: the list goes to the slots, and the rest of them is 0
 --     readBed bs                the plain bed of an accepted file: by rows, wholly scanned
--- Not here: the numbers in bytes (items, `wordAt`), the roster section (rostercheck, `rosterCheck`).
+-- Not here: where the items stand (layout), the numbers in bytes (items, `wordAt`), the roster section (`rosterCheck`).
 use mathlib.Core.List.{List, [], _∷_, _++_, map}
-use Prim.Native.Nat.{ℕ, zero, suc, _+_, _-_, _*_, _^_}
+use Prim.Native.Nat.{ℕ, zero, suc, _+_, _-_, _^_}
 use lib.Dec.{leb}
 use lib.ListN.{length, drop, getD, replicate}
 use Rattle.refusal.specs.Refusal.{accepted, orderTooLarge, slotsExceeded, fileCutShort}
@@ -16,6 +16,7 @@ use Rattle.quadtree.specs.Raster.{accountAt}
 use Rattle.list_check.specs.ListCheck.{wordCheck}
 use Rattle.bed.specs.declared.Kind.the-variants.{Rows}
 use Rattle.bed.specs.Bed.{Bed}
+use Rattle.mapfile_bytes.specs.Layout.{countPlace, wordLength, wordsPlace, rosterPlace}
 use Rattle.mapfile_bytes.specs.Items.{wordAt, wordsAt}
 use Rattle.mapfile_entries.specs.RosterCheck.{rosterCheck}
 use Rattle.mapfile_read.specs.declared.Reading.{Reading}
@@ -23,26 +24,26 @@ use Rattle.mapfile_read.specs.declared.Reading.{Reading}
 unfoldable pub tilesCheck : ℕ → ℕ → List Tile → List ℕ → ℕ → ℕ
 tilesCheck n zero seen bs p = accepted
 tilesCheck n (suc t) seen bs p =
-    must (leb (p + 4) (length bs)) fileCutShort
-    (wordCheck n seen (wordAt bs p) (tilesCheck n t (tileOf (wordAt bs p) ∷ seen) bs (p + 4)))
+    must (leb (p + wordLength) (length bs)) fileCutShort
+    (wordCheck n seen (wordAt bs p) (tilesCheck n t (tileOf (wordAt bs p) ∷ seen) bs (p + wordLength)))
 
 abbrev pub fileOrder : List ℕ → ℕ
 fileOrder bs = getD bs 0 0
 
 abbrev pub fileCount : List ℕ → ℕ
-fileCount bs = wordAt bs 1
+fileCount bs = wordAt bs countPlace
 
 abbrev pub fileWords : List ℕ → List ℕ
-fileWords bs = wordsAt (fileCount bs) bs 5
+fileWords bs = wordsAt (fileCount bs) bs wordsPlace
 
 unfoldable pub fileCheck : ℕ → List ℕ → ℕ
 fileCheck m bs =
     must (leb 1 (length bs)) fileCutShort
     (must (leb (fileOrder bs) highestOrder) orderTooLarge
-    (must (leb 5 (length bs)) fileCutShort
+    (must (leb wordsPlace (length bs)) fileCutShort
     (must (leb (fileCount bs) m) slotsExceeded
-    (orElse (tilesCheck (fileOrder bs) (fileCount bs) [] bs 5)
-    (rosterCheck (map tileOf (fileWords bs)) (drop (5 + 4 * fileCount bs) bs))))))
+    (orElse (tilesCheck (fileOrder bs) (fileCount bs) [] bs wordsPlace)
+    (rosterCheck (map tileOf (fileWords bs)) (drop (rosterPlace (fileCount bs)) bs))))))
 
 unfoldable pub readOf : List ℕ → List ℕ → After Reading
 readOf bs slots =

@@ -1,10 +1,11 @@
 // The reader of a map file. A file is any bytes: everything is examined first, read only, and stored then.
 ghost use mathlib.Core.Path.{_≡_};
 ghost use mathlib.Core.List.{[], _++_};
-ghost use Prim.Native.Nat.{_+_, _*_, _≤_};
+ghost use Prim.Native.Nat.{_≤_};
 ghost use lib.ListN.{length, drop};
 ghost use Rattle.refusal.specs.Checks.{After};
 ghost use Rattle.tile.specs.Tile.{highestOrder};
+ghost use Rattle.mapfile_bytes.specs.Layout.{wordsPlace, rosterPlace};
 ghost use Rattle.mapfile_bytes.specs.Items.{wordsAt};
 ghost use Rattle.mapfile_read.specs.Reader.{tilesCheck, readOf};
 ghost use Rattle.mapfile_read.specs.Examined.{refusedWith, examined};
@@ -19,14 +20,14 @@ pub struct Reading {
 
 // The words in turn, each where the bytes have it.
 fn words(order: u32, tiles: usize, file: &[u8]) -> u32
-    requires { ⌜ (order ≤ highestOrder) × (5 ≤ length (now file)) ⌝ }
-    ensures { λ r. ⌜ r ≡ tilesCheck order tiles [] (now (file .entry)) 5 ⌝ }
+    requires { ⌜ (order ≤ highestOrder) × (wordsPlace ≤ length (now file)) ⌝ }
+    ensures { λ r. ⌜ r ≡ tilesCheck order tiles [] (now (file .entry)) wordsPlace ⌝ }
 {
     let mut ahead = list_check::start();
     let mut i = 0;
-    let mut p = 5;
+    let mut p = mapfile_bytes::WORDS_PLACE;
     while i < tiles {
-        if file.len() - p < 4 {
+        if file.len() - p < mapfile_bytes::WORD_LENGTH {
             return refusal::FILE_CUT_SHORT;
         }
         let judged = list_check::step(order, ahead, mapfile_bytes::word_at(file, p));
@@ -36,7 +37,7 @@ fn words(order: u32, tiles: usize, file: &[u8]) -> u32
         }
         ahead = judged.ahead;
         i += 1;
-        p += 4;
+        p += mapfile_bytes::WORD_LENGTH;
     }
     refusal::ACCEPTED
 }
@@ -63,10 +64,10 @@ fn examine(slots: usize, file: &[u8]) -> Reading
     if tile::HIGHEST_ORDER < order {
         return refused(refusal::ORDER_TOO_LARGE);
     }
-    if file.len() < 5 {
+    if file.len() < mapfile_bytes::WORDS_PLACE {
         return refused(refusal::FILE_CUT_SHORT);
     }
-    let tiles = mapfile_bytes::long(mapfile_bytes::word_at(file, 1));
+    let tiles = mapfile_bytes::long(mapfile_bytes::word_at(file, mapfile_bytes::COUNT_PLACE));
     if slots < tiles {
         return refused(refusal::SLOTS_EXCEEDED);
     }
@@ -74,7 +75,7 @@ fn examine(slots: usize, file: &[u8]) -> Reading
     if listed != refusal::ACCEPTED {
         return refused(listed);
     }
-    let at = 5 + 4 * tiles;
+    let at = mapfile_bytes::WORDS_PLACE + mapfile_bytes::WORD_LENGTH * tiles;
     let roster = mapfile_entries::check(order, tiles, file, &file[at..]);
     if roster != refusal::ACCEPTED {
         return refused(roster);
@@ -88,19 +89,20 @@ fn examine(slots: usize, file: &[u8]) -> Reading
 
 // The words of the file into the slots.
 fn store(tiles: usize, file: &[u8], slots: &mut [u32])
-    requires { ⌜ (5 + 4 * tiles ≤ length (now file)) × (tiles ≤ length (now slots)) ⌝ }
-    ensures { λ r. ⌜ now (slots .exit) ≡ wordsAt tiles (now (file .entry)) 5 ++ drop tiles (now (slots .entry)) ⌝ }
+    requires { ⌜ (rosterPlace tiles ≤ length (now file)) × (tiles ≤ length (now slots)) ⌝ }
+    ensures { λ r. ⌜ now (slots .exit) ≡ wordsAt tiles (now (file .entry)) wordsPlace ++ drop tiles (now (slots .entry)) ⌝ }
 {
     let mut i = 0;
-    let mut p = 5;
+    let mut p = mapfile_bytes::WORDS_PLACE;
     while i < tiles {
         slots[i] = mapfile_bytes::word_at(file, p);
         i += 1;
-        p += 4;
+        p += mapfile_bytes::WORD_LENGTH;
     }
 }
 
-// The offered call: reads a file and leaves its list in the slots, the rest of them 0, or answers the first refusal and changes no slot.
+// The offered call: reads a file and leaves its list in the slots, the rest of them 0, or answers the first refusal and
+// changes no slot.
 pub fn read(file: &[u8], slots: &mut [u32]) -> Reading
     ensures { λ r. ⌜ _≡_ {A = After Reading} (record { answer = r; storage = now (slots .exit) }) (readOf (now (file .entry)) (now (slots .entry))) ⌝ }
 {
