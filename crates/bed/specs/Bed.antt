@@ -65,7 +65,8 @@ stopped r k b = record { number = r; taken = k; bed = b }
 
 unfoldable pub feedPixels : ℕ → ℕ → Bed → List ℕ → BedFed
 feedPixels m k b [] = stopped accepted k b
-feedPixels m k b (a ∷ bytes) = unless (pixelCheck m b a) (λ number. stopped number k b) (feedPixels m (k + 1) (putPixel b a) bytes)
+feedPixels m k b (a ∷ bytes) = unless (pixelCheck m b a) (λ number. stopped number k b)
+    (feedPixels m (k + 1) (putPixel b a) bytes)
 
 unfoldable pub feedBed : ℕ → Bed → List ℕ → BedFed
 feedBed m b bytes = if (hasUnscanned b) (stopped tileUnscanned 0 b) (feedPixels m 0 b bytes)

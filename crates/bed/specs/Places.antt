@@ -1,6 +1,7 @@
 -- The places of a scan (document 01, "Scanning" and "The plain bed"). Definitions only.
 --     scanOf k n s t      the scan record of kind k and order n with s pixels scanned and t tiles
---     placeOf k n z       how many places come before that of the pixel with the Morton number z, in the scan of kind k and order n
+--     placeOf k n z       how many places come before that of the pixel with the Morton number z, in the scan of kind k
+--                         and order n
 --     pixelAt k n i       the Morton number of the pixel with i places before its own
 --     scanned k n s z     the pixel z is scanned once s pixels are: fewer than s places come before its own
 --     rows n f            the accounts of the raster f of order n, row after row

@@ -1,5 +1,5 @@
--- The checks of what a call is handed besides its map, one by one (document 01, "Refusals by the place of the check"); the calls compose
--- them. Definitions only.
+-- The checks of what a call is handed besides its map, one by one (document 01, "Refusals by the place of the check");
+-- the calls compose them. Definitions only.
 --     pointIn n c r      column c and row r are below 2 ^ n
 --     pointCheck n c r   31, the point asked
 --     blockCheck n c k   32, the block asked (`blockIn` stands with the plain bed)

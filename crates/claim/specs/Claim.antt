@@ -1,6 +1,7 @@
 -- Claim (document 01, "Other calls"): every pixel of a quadrant block gets an account; 0 releases it. Definitions only.
 --     claimRefusal ..               1, 2, 11 to 16, then 32, 24, 25 as on the plain bed
---     claimOf n t slots c k a       the offered call: the list becomes the linear quadtree of the result, with the other slots 0
+--     claimOf n t slots c k a       the offered call: the list becomes the linear quadtree of the result, with the
+--                                   other slots 0
 use mathlib.Core.List.{List}
 use Prim.Native.Nat.{ℕ}
 use lib.ListN.{length}
@@ -15,7 +16,8 @@ use Rattle.bed.specs.Bed.{claimed, claimCheck}
 use Rattle.claim.specs.declared.Claimed.{Claimed}
 
 unfoldable pub claimRefusal : ℕ → ℕ → List ℕ → ℕ → ℕ → ℕ → ℕ
-claimRefusal n t slots c k a = orElse (listCheck n t slots) (claimCheck (length slots) n (accountAt (tilesIn t slots)) c k a)
+claimRefusal n t slots c k a = orElse (listCheck n t slots)
+    (claimCheck (length slots) n (accountAt (tilesIn t slots)) c k a)
 
 unfoldable pub claimOf : ℕ → ℕ → List ℕ → ℕ → ℕ → ℕ → After Claimed
 claimOf n t slots c k a =

@@ -1,4 +1,5 @@
-// Claims: every pixel of a quadrant block gets an account. The list changes in place, by one move of its tail and a few words.
+// Claims: every pixel of a quadrant block gets an account. The list changes in place, by one move of its tail and a few
+// words.
 ghost use Prim.Native.Nat.{_≤_};
 ghost use lib.ListN.{length};
 ghost use Rattle.refusal.specs.Checks.{Gives};
@@ -42,8 +43,8 @@ fn claim_block(
     }
 }
 
-// The offered call: claims a block of a bed for an account, or releases it for account 0. The list becomes the linear quadtree of the result,
-// and the slots behind it hold 0. A refused claim changes nothing.
+// The offered call: claims a block of a bed for an account, or releases it for account 0. The list becomes the linear
+// quadtree of the result, and the slots behind it hold 0. A refused claim changes nothing.
 pub fn claim(
     order: u32,
     tiles: usize,

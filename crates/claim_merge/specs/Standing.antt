@@ -1,8 +1,10 @@
 -- A tile that stands in place of others in a list, and its siblings there. Definitions only.
 --     Block c k                     the block of size k at the corner c is a quadrant of the largest bed
 --     quadrantOf c k, parentOf c k     which quadrant of its parent the block is, and the parent's corner
---     Beside ts lo hi c k a         the three siblings of the tile of size k and account a at c stand ahead of lo and from hi on
---     Stands g n ts a lo hi c k     in the raster g the tile of size k and account a at c stands in place of the tiles from lo up to hi
+--     Beside ts lo hi c k a         the three siblings of the tile of size k and account a at c stand ahead of lo and
+--                                   from hi on
+--     Stands g n ts a lo hi c k     in the raster g the tile of size k and account a at c stands in place of the tiles
+--                                   from lo up to hi
 --     Merges g n ts a lo hi c k     and its siblings do not all stand beside it
 use mathlib.Core.Path.{_≡_}
 use mathlib.Core.List.{List}

@@ -1,4 +1,5 @@
-// Merging, which only reads: a tile in place of others goes together with its siblings on both sides, over as many levels as fit.
+// Merging, which only reads: a tile in place of others goes together with its siblings on both sides, over as many
+// levels as fit.
 ghost use mathlib.Core.List.{map};
 ghost use Prim.Native.Nat.{_≤_};
 ghost use lib.ListN.{length};
@@ -44,7 +45,8 @@ fn beside(list: &[u32], lo: usize, hi: usize, corner: u32, size: u32, account: u
     list_run::is_run(list, hi, after, corner + side, size, account)
 }
 
-// Merges a tile in place of those from lo up to hi with its siblings on both sides, over as many levels as they are all there.
+// Merges a tile in place of those from lo up to hi with its siblings on both sides, over as many levels as they are all
+// there.
 pub fn merge(
     order: u32,
     list: &[u32],
@@ -54,8 +56,10 @@ pub fn merge(
     size: u32,
     account: u8,
 ) -> Grown
-    requires { ⌜ (order ≤ highestOrder) × Stands (claimed (accountAt (map tileOf (now list))) corner size account) order (map tileOf (now list)) account lo hi corner size ⌝ }
-    ensures { λ r. ⌜ Merges (claimed (accountAt (map tileOf (now (list .entry)))) corner size account) order (map tileOf (now (list .entry))) account (r .lo) (r .hi) (r .corner) (r .size) ⌝ }
+    requires { ⌜ (order ≤ highestOrder) × Stands (claimed (accountAt (map tileOf (now list))) corner size account) order
+        (map tileOf (now list)) account lo hi corner size ⌝ }
+    ensures { λ r. ⌜ Merges (claimed (accountAt (map tileOf (now (list .entry)))) corner size account) order
+        (map tileOf (now (list .entry))) account (r .lo) (r .hi) (r .corner) (r .size) ⌝ }
 {
     let mut from = lo;
     let mut to = hi;

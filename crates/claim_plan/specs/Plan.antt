@@ -1,5 +1,6 @@
 -- What a claim changes in a valid list, found without a store: the facts that the functions hand on. Definitions only.
---     Claimable n ts c k a          the checks that come before a claim have passed: ts is valid, the block a quadrant, the account an account
+--     Claimable n ts c k a          the checks that come before a claim have passed: ts is valid, the block a quadrant,
+--                                   the account an account
 --     Covered s lo c k              the tile at lo is larger than the block and does not start behind its corner
 --     Changes n ts c k a r          the change r makes of ts the linear quadtree after the claim
 --     inner a                       how many tiles a block of the account a has: one, and none for nobody's
@@ -37,7 +38,8 @@ pub record Changes (n : ℕ) (ts : List Tile) (c k a : ℕ) (r : Change) : Type 
   pub fits : r .top ≤ n
   pub room : r .first + 4 ^ r .top ≤ 4 ^ n
   pub owner : r .owner ≤ highestAccount
-  pub result : take (r .lo) ts ++ (blocks (claimed (accountAt ts) c k a) (r .top) (r .first) ++ drop (r .hi) ts) ≡ quadtree n (claimed (accountAt ts) c k a)
+  pub result : take (r .lo) ts ++ (blocks (claimed (accountAt ts) c k a) (r .top) (r .first) ++ drop (r .hi) ts) ≡
+      quadtree n (claimed (accountAt ts) c k a)
 
 unfoldable pub inner : ℕ → ℕ
 inner zero = 0

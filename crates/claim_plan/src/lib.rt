@@ -1,4 +1,5 @@
-// The plan of a claim, which only reads: which tiles of a valid list go, which tiles come in their place, and how many the list then has.
+// The plan of a claim, which only reads: which tiles of a valid list go, which tiles come in their place, and how many
+// the list then has.
 ghost use mathlib.Core.Path.{_≡_};
 ghost use mathlib.Core.List.{map};
 ghost use Prim.Native.Nat.{_+_, _*_, _≤_};
@@ -9,8 +10,8 @@ ghost use Rattle.tile.specs.Slots.{tilesIn};
 ghost use Rattle.list_search.specs.FirstPast.{FirstPast};
 ghost use Rattle.claim_plan.specs.Plan.{Claimable, Covered, Changes, inner, Plans};
 
-// The tiles from `lo` up to `hi` give way to those of the block of size `top` at the corner `first`, in which the block of size `size`
-// at `corner` has the claimed account and the rest is the owner's.
+// The tiles from `lo` up to `hi` give way to those of the block of size `top` at the corner `first`, in which the block
+// of size `size` at `corner` has the claimed account and the rest is the owner's.
 pub struct Change {
     pub lo: usize,
     pub hi: usize,
@@ -47,7 +48,8 @@ fn covered(list: &[u32], lo: usize, corner: u32, size: u32) -> bool
 
 // The change where the tile at lo covers the block: it is split, or kept if the account is its own.
 fn split(order: u32, list: &[u32], lo: usize, corner: u32, size: u32, account: u8) -> Change
-    requires { ⌜ Claimable order (map tileOf (now list)) corner size account × FirstPast (now list) 0 corner lo × Covered (now list) lo corner size ⌝ }
+    requires { ⌜ Claimable order (map tileOf (now list)) corner size account × FirstPast (now list) 0 corner lo
+        × Covered (now list) lo corner size ⌝ }
     ensures { λ r. ⌜ Changes order (map tileOf (now (list .entry))) corner size account r ⌝ }
 {
     let w = list[lo];

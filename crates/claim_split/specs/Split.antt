@@ -1,5 +1,7 @@
--- A block of one account inside a block of another, which the contracts of claims' inner functions cite. Definitions only.
---     Split g k c a v s d   g has the account a on the block of size k at c, and v on the rest of the block of size s at d around it
+-- A block of one account inside a block of another, which the contracts of claims' inner functions cite. Definitions
+-- only.
+--     Split g k c a v s d   g has the account a on the block of size k at c, and v on the rest of the block of size s
+--                           at d around it
 --     pieces k c a v l d    the tiles of such a block, l levels above the inner one
 use mathlib.Core.Path.{_≡_}
 use mathlib.Core.List.{List, _++_}
@@ -23,4 +25,5 @@ pub record Split (g : ℕ → ℕ) (k c a v s d : ℕ) : Type 0 where
 unfoldable pub pieces : ℕ → ℕ → ℕ → ℕ → ℕ → ℕ → List Tile
 pieces k c a v zero d = single c k a
 pieces k c a v (suc l) d =
-    tileRun (k + l) v ((c - d) / 4 ^ (k + l)) d ++ (pieces k c a v l (d + (c - d) / 4 ^ (k + l) * 4 ^ (k + l)) ++ tileRun (k + l) v (3 - (c - d) / 4 ^ (k + l)) (d + (c - d) / 4 ^ (k + l) * 4 ^ (k + l) + 4 ^ (k + l)))
+    tileRun (k + l) v ((c - d) / 4 ^ (k + l)) d ++ (pieces k c a v l (d + (c - d) / 4 ^ (k + l) * 4 ^ (k + l))
+    ++ tileRun (k + l) v (3 - (c - d) / 4 ^ (k + l)) (d + (c - d) / 4 ^ (k + l) * 4 ^ (k + l) + 4 ^ (k + l)))

@@ -10,7 +10,8 @@ ghost use Rattle.claim_store.specs.Stores.{Drawn, RoomMade};
 
 // Makes room for `count` words in place of those from lo up to hi, in a list of so many tiles.
 pub fn make_room(slots: &mut [u32], lo: usize, hi: usize, tiles: usize, count: usize)
-    requires { ⌜ (lo ≤ hi) × (hi ≤ tiles) × (tiles ≤ length (now slots)) × (lo + count + (tiles - hi) ≤ length (now slots)) ⌝ }
+    requires { ⌜ (lo ≤ hi) × (hi ≤ tiles) × (tiles ≤ length (now slots))
+        × (lo + count + (tiles - hi) ≤ length (now slots)) ⌝ }
     ensures { λ r. ⌜ RoomMade (now (slots .entry)) (now (slots .exit)) lo hi tiles count ⌝ }
 {
     let gap = hi - lo;
@@ -24,10 +25,14 @@ pub fn make_room(slots: &mut [u32], lo: usize, hi: usize, tiles: usize, count: u
     list_words::move_down(slots, lo + count, tiles, gap - count);
 }
 
-// Writes the `count` tiles that come, from the outermost level to the block itself: those ahead of it from the left, those behind it from the right.
+// Writes the `count` tiles that come, from the outermost level to the block itself: those ahead of it from the left,
+// those behind it from the right.
 pub fn write_pieces(slots: &mut [u32], change: claim_plan::Change, count: usize, account: u8)
-    requires { ⌜ Drawn (length (now slots)) (change .lo) (change .size) (change .corner) account (change .owner) (change .top) (change .first) × (count ≡ 3 * (change .top - change .size) + inner account) ⌝ }
-    ensures { λ r. ⌜ now (slots .exit) ≡ take (change .lo) (now (slots .entry)) ++ (map wordOf (pieces (change .size) (change .corner) account (change .owner) (change .top - change .size) (change .first)) ++ drop (change .lo + count) (now (slots .entry))) ⌝ }
+    requires { ⌜ Drawn (length (now slots)) (change .lo) (change .size) (change .corner) account (change .owner)
+        (change .top) (change .first) × (count ≡ 3 * (change .top - change .size) + inner account) ⌝ }
+    ensures { λ r. ⌜ now (slots .exit) ≡ take (change .lo) (now (slots .entry))
+        ++ (map wordOf (pieces (change .size) (change .corner) account (change .owner) (change .top - change .size)
+        (change .first)) ++ drop (change .lo + count) (now (slots .entry))) ⌝ }
 {
     let corner = change.corner;
     let size = change.size;

@@ -1,7 +1,9 @@
--- What the parts of decoding change of the bytes of a raster: ys is xs with the account a on a part of it. Definitions only.
+-- What the parts of decoding change of the bytes of a raster: ys is xs with the account a on a part of it. Definitions
+-- only.
 --     RunFilled xs from to a ys                             on the bytes from `from` up to `to`
 --     RectangleFilled width xs column row columns rows a ys  on a rectangle of a raster whose rows have `width` bytes
---     TileFilled n t xs ys                                  on the tile t of a raster of order n, by rows, with the account of t
+--     TileFilled n t xs ys                                  on the tile t of a raster of order n, by rows, with the
+--                          account of t
 use mathlib.Core.Path.{_≡_}
 use mathlib.Core.List.{List}
 use Prim.Native.Nat.{ℕ, _+_, _*_, _^_, _≤_, _<_}
@@ -26,7 +28,8 @@ pub record Within (column row columns rows c r : ℕ) : Type 0 where
 pub record RectangleFilled (width : ℕ) (xs : List ℕ) (column row columns rows a : ℕ) (ys : List ℕ) : Type 0 where
   pub long : length ys ≡ length xs
   pub inside : (c r : ℕ) → c < width → Within column row columns rows c r → getD ys (r * width + c) 0 ≡ a
-  pub outside : (c r : ℕ) → c < width → (Within column row columns rows c r → ⊥) → getD ys (r * width + c) 0 ≡ getD xs (r * width + c) 0
+  pub outside : (c r : ℕ) → c < width → (Within column row columns rows c r → ⊥) →
+      getD ys (r * width + c) 0 ≡ getD xs (r * width + c) 0
 
 pub record TileFilled (n : ℕ) (t : Tile) (xs ys : List ℕ) : Type 0 where
   pub long : length ys ≡ length xs

@@ -39,7 +39,8 @@ fn run(raster: &mut [u8], from: usize, to: usize, account: u8)
 
 // Sets a square of a raster whose rows have `width` bytes, row by row.
 fn square(raster: &mut [u8], width: usize, column: usize, row: usize, side: usize, account: u8)
-    requires { ⌜ (width ≤ 2 ^ highestOrder) × (column + side ≤ width) × (row + side ≤ width) × (length (now raster) ≡ width * width) ⌝ }
+    requires { ⌜ (width ≤ 2 ^ highestOrder) × (column + side ≤ width) × (row + side ≤ width)
+        × (length (now raster) ≡ width * width) ⌝ }
     ensures { λ r. ⌜ RectangleFilled width (now (raster .entry)) column row side side account (now (raster .exit)) ⌝ }
 {
     let mut y = 0;
@@ -65,7 +66,8 @@ fn paint(order: u32, word: u32, raster: &mut [u8])
 
 // Sets each pixel to the account that a valid list shows there: to 0, and then the tiles in turn.
 fn fill(order: u32, tiles: usize, slots: &[u32], raster: &mut [u8])
-    requires { ⌜ (order ≤ highestOrder) × (tiles ≤ length (now slots)) × Valid order (tilesIn tiles (now slots)) × (length (now raster) ≡ 4 ^ order) ⌝ }
+    requires { ⌜ (order ≤ highestOrder) × (tiles ≤ length (now slots)) × Valid order (tilesIn tiles (now slots))
+        × (length (now raster) ≡ 4 ^ order) ⌝ }
     ensures { λ r. ⌜ now (raster .exit) ≡ rows order (accountAt (tilesIn tiles (now (slots .entry)))) ⌝ }
 {
     let end = raster.len();
@@ -77,8 +79,8 @@ fn fill(order: u32, tiles: usize, slots: &[u32], raster: &mut [u8])
     }
 }
 
-// The offered call: writes the account of each pixel to the raster, row after row. A list that list checking refuses is refused,
-// and so is a raster of another length than the bed has pixels; then no byte changes.
+// The offered call: writes the account of each pixel to the raster, row after row. A list that list checking refuses is
+// refused, and so is a raster of another length than the bed has pixels; then no byte changes.
 pub fn decode(order: u32, tiles: usize, slots: &[u32], raster: &mut [u8]) -> u32
     ensures { λ r. ⌜ Gives r (now (raster .exit)) (decodeOf order tiles (now (slots .entry)) (now (raster .entry))) ⌝ }
 {

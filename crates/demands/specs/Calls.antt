@@ -1,4 +1,5 @@
--- Lists of calls (document 01, "The plain bed"): what they answer and leave, in slots and on the plain bed. Definitions only.
+-- Lists of calls (document 01, "The plain bed"): what they answer and leave, in slots and on the plain bed. Definitions
+-- only.
 --     Call              a fresh scan, a feed, a claim or a reading, with what it is handed besides record and slots
 --     Answer            the refusal number or 0, and the count that a feed took
 --     State             the record in use and the lent slots
@@ -19,7 +20,7 @@ use Rattle.bed.specs.declared.Kind.the-variants.{Rows}
 use Rattle.bed.specs.declared.Scan.{Scan}
 use Rattle.bed.specs.Places.{scanOf}
 use Rattle.bed.specs.Bed as bed
-use Rattle.bed.specs.Bed.{Bed, freshBed, feedBed, claimCheck, claimed}
+use Rattle.bed.specs.Bed.{Bed, bedOf, freshBed, feedBed, claimCheck, claimed}
 use Rattle.scan.specs.declared.Fresh.{Fresh}
 use Rattle.scan.specs.declared.Fed.{Fed}
 use Rattle.scan.specs.FreshScan.{freshOf}
@@ -58,18 +59,30 @@ afterFresh c r = record {
 }
 
 unfoldable pub afterFeed : After Fed → Step
-afterFeed r = record { answer = answer (r .answer .number) (r .answer .taken); state = record { scan = r .answer .scan; slots = r .storage } }
+afterFeed r = record {
+  answer = answer (r .answer .number) (r .answer .taken);
+  state =
+      record { scan = r .answer .scan; slots = r .storage };
+}
 
 unfoldable pub afterClaim : Scan → After Claimed → Step
 afterClaim c r = record {
   answer = answer (r .answer .number) 0;
-  state = record { scan = unless (r .answer .number) (λ number. c) (scanOf (c .kind) (c .order) (c .pixels) (r .answer .tiles)); slots = r .storage };
+  state = record {
+    scan = unless (r .answer .number) (λ number. c)
+        (scanOf (c .kind) (c .order) (c .pixels) (r .answer .tiles));
+    slots = r .storage;
+  };
 }
 
 unfoldable pub afterRead : Scan → After Reading → Step
 afterRead c r = record {
   answer = answer (r .answer .number) 0;
-  state = record { scan = unless (r .answer .number) (λ number. c) (scanOf Rows (r .answer .order) (4 ^ r .answer .order) (r .answer .tiles)); slots = r .storage };
+  state = record {
+    scan = unless (r .answer .number) (λ number. c)
+        (scanOf Rows (r .answer .order) (4 ^ r .answer .order) (r .answer .tiles));
+    slots = r .storage;
+  };
 }
 
 unfoldable pub step : State → Call → Step
@@ -98,7 +111,7 @@ abbrev pub plainFed : bed.BedFed → PlainStep
 plainFed r = record { answer = answer (r .number) (r .taken); bed = r .bed }
 
 abbrev pub claimedBed : Bed → ℕ → ℕ → ℕ → Bed
-claimedBed b c k a = record { order = b .order; kind = b .kind; scanned = b .scanned; account = claimed (b .account) c k a }
+claimedBed b c k a = bedOf (b .kind) (b .order) (b .scanned) (claimed (b .account) c k a)
 
 unfoldable pub plainStep : ℕ → Bed → Call → PlainStep
 plainStep m b (fresh k n) = plainly b (must (leb n highestOrder) orderTooLarge accepted) (freshBed k n)

@@ -1,6 +1,7 @@
 -- The demands as statements. Demand 1 is the contracts of the offered calls.
 --     Left m s b                the state s that calls left in record and m slots, all of it, against the plain bed b
---     Demand2 k n m pixels count s   the state s that feeds of pixels left in m slots is the linear quadtree of the pixels, decodes to
+--     Demand2 k n m pixels count s   the state s that feeds of pixels left in m slots is the linear quadtree of the
+--                                    pixels, decodes to
 --                               them, and counts them, as the feeds' answers do
 --     Demand3 ..                two lists of calls, each taken whole
 use mathlib.Core.Path.{_≡_}
@@ -15,7 +16,7 @@ use Rattle.quadtree.specs.Raster.{Shows}
 use Rattle.quadtree.specs.Quadtree.{LinearQuadtree}
 use Rattle.bed.specs.declared.Kind.{Kind}
 use Rattle.bed.specs.Places.{placeOf, rows}
-use Rattle.bed.specs.Bed.{Bed}
+use Rattle.bed.specs.Bed.{Bed, bedOf}
 use Rattle.decode.specs.Decode.{decodeOf}
 use Rattle.scan.specs.FreshScan.{freshOf}
 use Rattle.demands.specs.Calls.{Call, feed, State, Step, step, answers, left, plainAnswers, plainLeft, Begins}
@@ -27,9 +28,11 @@ listIn s = tilesIn (s .scan .tiles) (s .slots)
 -- decoding what was left, into a raster of the right length, writes the raster f row after row
 abbrev pub Decodes : State → (ℕ → ℕ) → Type 0
 Decodes s f = (raster : List ℕ) → length raster ≡ 4 ^ s .scan .order →
-    decodeOf (s .scan .order) (s .scan .tiles) (s .slots) raster ≡ record { answer = accepted; storage = rows (s .scan .order) f }
+    decodeOf (s .scan .order) (s .scan .tiles) (s .slots) raster ≡ record
+    { answer = accepted; storage = rows (s .scan .order) f }
 
--- the whole state: each field of the record, the list in the first slots, and the slots behind it, of which there are as many as were lent
+-- the whole state: each field of the record, the list in the first slots, and the slots behind it, of which there are
+-- as many as were lent
 pub record Left (m : ℕ) (s : State) (b : Bed) : Type 0 where
   pub kind : s .scan .kind ≡ b .kind
   pub order : s .scan .order ≡ b .order
@@ -45,7 +48,8 @@ pub record Left (m : ℕ) (s : State) (b : Bed) : Type 0 where
 abbrev pub fed : State → List ℕ → Step
 fed s bytes = step s (feed bytes)
 
--- the feeds in turn, each handed what the one before left: the state left, the pixels taken by all of them, and the sum of the counts answered
+-- the feeds in turn, each handed what the one before left: the state left, the pixels taken by all of them, and the sum
+-- of the counts answered
 unfoldable pub afterFeeds : State → List (List ℕ) → State
 afterFeeds s [] = s
 afterFeeds s (bytes ∷ feeds) = afterFeeds (fed s bytes .state) feeds
@@ -66,9 +70,10 @@ abbrev pub scanRaster : Kind → ℕ → List ℕ → ℕ → ℕ
 scanRaster k n pixels z = getD pixels (placeOf k n z) 0
 
 abbrev pub scanBed : Kind → ℕ → List ℕ → Bed
-scanBed k n pixels = record { order = n; kind = k; scanned = length pixels; account = scanRaster k n pixels }
+scanBed k n pixels = bedOf k n (length pixels) (scanRaster k n pixels)
 
--- `take` stops at the end of the bytes: the counts answered must add up to the pixels, lest a feed answer more than it was handed
+-- `take` stops at the end of the bytes: the counts answered must add up to the pixels, lest a feed answer more than it
+-- was handed
 pub record Demand2 (k : Kind) (n m : ℕ) (pixels : List ℕ) (count : ℕ) (s : State) : Type 0 where
   pub counted : count ≡ length pixels
   pub left : Left m s (scanBed k n pixels)
@@ -89,7 +94,8 @@ pub record Demand3 (s₁ s₂ : State) (b₁ b₂ : Bed) (cs₁ cs₂ : List Cal
       ((z : ℕ) → z < 4 ^ plainLeft (length (s₁ .slots)) b₁ cs₁ .order →
       plainLeft (length (s₁ .slots)) b₁ cs₁ .account z ≡ plainLeft (length (s₂ .slots)) b₂ cs₂ .account z)
 
--- demand 3: any numbers of slots with any content, any records and beds before, any lists of calls begun by an accepted fresh scan or reading
+-- demand 3: any numbers of slots with any content, any records and beds before, any lists of calls begun by an accepted
+-- fresh scan or reading
 unfoldable pub DemandThree : Type 0
 DemandThree = (s₁ s₂ : State) (b₁ b₂ : Bed) (c₁ c₂ : Call) (cs₁ cs₂ : List Call) →
     Begins (length (s₁ .slots)) c₁ → Begins (length (s₂ .slots)) c₂ → Demand3 s₁ s₂ b₁ b₂ (c₁ ∷ cs₁) (c₂ ∷ cs₂)

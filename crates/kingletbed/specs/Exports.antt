@@ -1,4 +1,5 @@
--- What the exports make of the calls' answers, where these hold a scan record: an answer of numbers alone. Definitions only.
+-- What the exports make of the calls' answers, where these hold a scan record: an answer of numbers alone. Definitions
+-- only.
 --     kindOf x, kindNumber k   0 is by rows, any other number in Morton order, which is 1
 --     freshNumbers, fedNumbers an answer with the record's four numbers in place of the record
 use Prim.Native.Nat.{ℕ}
@@ -21,12 +22,28 @@ kindNumber Morton = 1
 
 unfoldable pub freshNumbers : After Fresh → After FreshAnswer
 freshNumbers r = record {
-  answer = record { number = r .answer .number; kind = kindNumber (r .answer .scan .kind); order = r .answer .scan .order; pixels = r .answer .scan .pixels; tiles = r .answer .scan .tiles };
+  answer = record {
+    number = r .answer .number;
+    kind = kindNumber (r .answer .scan .kind);
+    order =
+        r .answer .scan .order;
+    pixels = r .answer .scan .pixels;
+    tiles = r .answer .scan .tiles;
+  };
   storage = r .storage;
 }
 
 unfoldable pub fedNumbers : After Fed → After FeedAnswer
 fedNumbers r = record {
-  answer = record { number = r .answer .number; taken = r .answer .taken; kind = kindNumber (r .answer .scan .kind); order = r .answer .scan .order; pixels = r .answer .scan .pixels; tiles = r .answer .scan .tiles };
+  answer = record {
+    number = r .answer .number;
+    taken = r .answer .taken;
+    kind =
+        kindNumber (r .answer .scan .kind);
+    order = r .answer .scan .order;
+    pixels = r .answer .scan .pixels;
+    tiles =
+        r .answer .scan .tiles;
+  };
   storage = r .storage;
 }

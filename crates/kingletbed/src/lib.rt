@@ -1,5 +1,5 @@
-// The library for C and Rust: each export hands its arguments to the offered call and its answer back. Nothing is asked of the caller.
-// include/kingletbed.h declares them and says what they do.
+// The library for C and Rust: each export hands its arguments to the offered call and its answer back. Nothing is asked
+// of the caller. include/kingletbed.h declares them and says what they do.
 ghost use mathlib.Core.Path.{_≡_};
 ghost use Prim.Native.Nat.{ℕ};
 ghost use Rattle.refusal.specs.Checks.{Gives};
@@ -98,7 +98,8 @@ pub extern "C" fn kb_feed(
     slots: &mut [u32],
     accounts: &[u8],
 ) -> FeedAnswer
-    ensures { λ r. ⌜ Gives r (now (slots .exit)) (fedNumbers (feedOf (scanOf (kindOf kind) order pixels tiles) (now (slots .entry)) (now (accounts .entry)))) ⌝ }
+    ensures { λ r. ⌜ Gives r (now (slots .exit)) (fedNumbers
+        (feedOf (scanOf (kindOf kind) order pixels tiles) (now (slots .entry)) (now (accounts .entry)))) ⌝ }
 {
     let kind = kind_of(kind);
     let scan = Scan {

@@ -20,7 +20,7 @@ use Rattle.quadtree.specs.Valid.{Sound}
 use Rattle.quadtree.proofs.Alignment.{area-mono, test-aligned}
 use Rattle.list_check.specs.declared.Ahead.{Ahead}
 use Rattle.list_check.specs.ListCheck.{lastOfFour, ended, soundCheck, wordCheck}
-use Rattle.list_check.specs.Pass.{nextRow, aheadOf, Knows, Stepped}
+use Rattle.list_check.specs.Pass.{nextRow, aheadOf, Knows, Judges}
 use Rattle.list_check.proofs.LastOfFour.{test-last}
 use Rattle.list_check.proofs.SiblingRow.{nextRow-le, row-last, last-row}
 
@@ -70,7 +70,7 @@ module _ (n : ℕ) (seen : List Tile) (w : ℕ) (a : Ahead) (g : Knows a seen) (
   sound-is : x ≡ soundCheck n (ended seen) w
   sound-is = s ∙ ap (λ (l : ℕ). soundCheck n l w) (ap (λ (b : Ahead). b .stop) (g .is) ∙ ahead-ended seen)
 
-  pub step-bad : (x ≡ accepted → ⊥) → Stepped n seen w (record { refusal = x; ahead = a })
+  pub step-bad : (x ≡ accepted → ⊥) → Judges n seen w (record { refusal = x; ahead = a })
   unfolding wordCheck
   step-bad z = record { refusal = sound-is ∙ sym (else-off _ _ (λ y. z (sound-is ∙ y))); ahead = λ y. absurd (z y) }
 
@@ -82,13 +82,13 @@ module _ (n : ℕ) (seen : List Tile) (w : ℕ) (a : Ahead) (g : Knows a seen) (
     unfolding wordCheck
     left = else-on _ _ (sym sound-is ∙ z)
 
-    pub step-last : m ≡ 4 → Stepped n seen w (record { refusal = siblingsUnmerged; ahead = a })
+    pub step-last : m ≡ 4 → Judges n seen w (record { refusal = siblingsUnmerged; ahead = a })
     step-last f = record {
       refusal = sym (left ∙ must-off siblingsUnmerged accepted (test-not (test-last seen (tileOf w))) (λ q. q (row-last seen (tileOf w) (sym row-is ∙ f))));
       ahead = λ y. absurd (omega arith);
     }
 
-    pub step-good : (m ≡ 4 → ⊥) → (d : ℕ) → d ≡ 4 ^ k → Stepped n seen w (record { refusal = accepted; ahead = record { stop = c + d; size = k; account = p; row = m } })
+    pub step-good : (m ≡ 4 → ⊥) → (d : ℕ) → d ≡ 4 ^ k → Judges n seen w (record { refusal = accepted; ahead = record { stop = c + d; size = k; account = p; row = m } })
     unfolding aheadOf
     step-good f d ed = record {
       refusal = sym (left ∙ must-on siblingsUnmerged accepted (test-not (test-last seen (tileOf w))) (λ l. f (row-is ∙ last-row seen (tileOf w) l)));

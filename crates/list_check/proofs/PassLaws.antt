@@ -17,7 +17,7 @@ use Rattle.tile.specs.Tile.{Tile, tileOf}
 use Rattle.list_check.specs.declared.Ahead.{Ahead}
 use Rattle.list_check.specs.declared.Judged.{Judged}
 use Rattle.list_check.specs.ListCheck.{wordCheck, wordsCheck}
-use Rattle.list_check.specs.Pass.{Knows, Stepped}
+use Rattle.list_check.specs.Pass.{Knows, Judges}
 use Rattle.list_check.proofs.OneWord.{wordCheck-rest}
 
 pub record Going (n : ℕ) (ws : List ℕ) (i : ℕ) (a : Ahead) : Type 0 where
@@ -34,7 +34,7 @@ module _ (n : ℕ) (ws : List ℕ) where
   going-end i h g = let d : drop i ws ≡ [] = rw h (drop-length ws) in sym (g .rest ∙ rw d)
 
   -- the word w at i
-  module _ (i : ℕ) {a : Ahead} (h : i < length ws) (g : Going n ws i a) (w : ℕ) (ew : getD ws i 0 ≡ w) {r : Judged} (s : Stepped n (g .seen) w r) where
+  module _ (i : ℕ) {a : Ahead} (h : i < length ws) (g : Going n ws i a) (w : ℕ) (ew : getD ws i 0 ≡ w) {r : Judged} (s : Judges n (g .seen) w r) where
     turn : wordsCheck n [] ws ≡ orElse (wordCheck n (g .seen) w accepted) (wordsCheck n (tileOf w ∷ g .seen) (drop (i + 1) ws))
     unfolding wordsCheck
     turn = g .rest ∙ rw (drop-cons ws i 0 h, ew, add-one i) (wordCheck-rest n (g .seen) w _)

@@ -1,11 +1,13 @@
 -- List checking (document 01, "Refusals by the place of the check": 1, 2 and 11 to 16). Definitions only.
 --     follows t u               u starts where t ends, and has its size and account
 --     lastOfFour seen t         t is the last of four siblings, whose others are the three tiles ahead of it
---     soundCheck n lo w         the first of rows 11 to 15 that the word w breaks, where the tile ahead of it ends at lo
+--     soundCheck n lo w         the first of rows 11 to 15 that the word w breaks, where the tile ahead of it ends at
+--                               lo
 --     wordCheck n seen w rest   the first row that the word w breaks behind the tiles `seen`, or what the rest says
 --     wordsCheck n seen ws      the words in turn: the first bad word decides, and in it the first bad row
 --     listCheck n t slots       the offered call, of an order, a tile count and slots
--- The tiles seen are given last first. All of them passed, so that siblings of t among them are the ones directly ahead of it.
+-- The tiles seen are given last first. All of them passed, so that siblings of t among them are the ones directly ahead
+-- of it.
 use mathlib.Core.Bool.{Bool, false, _&&_, not}
 use mathlib.Core.List.{List, [], _∷_}
 use Prim.Native.Nat.{ℕ, _+_, _^_}
@@ -39,7 +41,8 @@ soundCheck n lo w =
     (must (leb lo (tileOf w .corner)) tilesOverlap accepted))))
 
 unfoldable pub wordCheck : ℕ → List Tile → ℕ → ℕ → ℕ
-wordCheck n seen w rest = orElse (soundCheck n (ended seen) w) (must (not (lastOfFour seen (tileOf w))) siblingsUnmerged rest)
+wordCheck n seen w rest = orElse (soundCheck n (ended seen) w)
+    (must (not (lastOfFour seen (tileOf w))) siblingsUnmerged rest)
 
 unfoldable pub wordsCheck : ℕ → List Tile → List ℕ → ℕ
 wordsCheck n seen [] = accepted

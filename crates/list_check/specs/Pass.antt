@@ -1,9 +1,12 @@
--- What one pass over a list keeps of the tiles that it has seen, which the contracts of its steps cite. Definitions only.
+-- What one pass over a list keeps of the tiles that it has seen, which the contracts of its steps cite. Definitions
+-- only.
 --     joins a t            t is the next sibling of the row that `a` tells of
---     nextRow a t          how many siblings in a row end with t, from the first of the four on; 0 where the row lacks its first
+--     nextRow a t          how many siblings in a row end with t, from the first of the four on; 0 where the row lacks
+--                          its first
 --     aheadOf seen         what the pass keeps of the tiles seen, which are given last first
 --     Knows a seen         `a` is that, and the tiles seen do not end with four siblings
---     Stepped n seen w r   what a step has to say of the word w behind the tiles seen: its refusal, or what is ahead of the next word
+--     Judges n seen w r   what a step has to say of the word w behind the tiles seen: its refusal, or what is ahead of
+--                          the next word
 -- Not here: what is refused (`ListCheck`), which does not speak of these.
 use mathlib.Core.Path.{_≡_}
 use mathlib.Core.Bool.{Bool, _&&_}
@@ -32,6 +35,6 @@ pub record Knows (a : Ahead) (seen : List Tile) : Type 0 where
   pub few : a .row ≤ 3
   pub is : a ≡ aheadOf seen
 
-pub record Stepped (n : ℕ) (seen : List Tile) (w : ℕ) (r : Judged) : Type 0 where
+pub record Judges (n : ℕ) (seen : List Tile) (w : ℕ) (r : Judged) : Type 0 where
   pub refusal : r .refusal ≡ wordCheck n seen w accepted
   pub ahead : r .refusal ≡ accepted → Knows (r .ahead) (tileOf w ∷ seen)

@@ -5,10 +5,10 @@ ghost use Prim.Native.Nat.{_≤_};
 ghost use lib.ListN.{length, take};
 ghost use Rattle.tile.specs.Tile.{Tile, tile, highestOrder};
 ghost use Rattle.list_check.specs.ListCheck.{soundCheck, wordsCheck, listCheck};
-ghost use Rattle.list_check.specs.Pass.{nextRow, Knows, Stepped};
+ghost use Rattle.list_check.specs.Pass.{nextRow, Knows, Judges};
 
-// What the pass keeps of the tiles ahead: where the last one stops, its size and account, and how many siblings in a row,
-// from the first of the four on, end with it.
+// What the pass keeps of the tiles ahead: where the last one stops, its size and account, and how many siblings in a
+// row, from the first of the four on, end with it.
 pub struct Ahead {
     pub stop: u32,
     pub size: u32,
@@ -88,7 +88,7 @@ fn row(ahead: Ahead, corner: u32, size: u32, account: u8) -> u32
 // The word behind the tiles that `ahead` tells of: one step of the pass, also for a reader that has no list yet.
 pub fn step(order: u32, ahead: Ahead, word: u32) -> Judged
     requires { ⌜ (order ≤ highestOrder) × (ahead .row ≤ 3) ⌝ }
-    ensures { λ r. ⌜ ((seen : List Tile) → Knows ahead seen → Stepped order seen word r) ⌝ }
+    ensures { λ r. ⌜ ((seen : List Tile) → Knows ahead seen → Judges order seen word r) ⌝ }
 {
     let stop = ahead.stop;
     let refusal = sound(order, stop, word);
@@ -135,7 +135,8 @@ fn words(order: u32, tiles: usize, slots: &[u32]) -> u32
     refusal::ACCEPTED
 }
 
-// The offered call: checks a list of an order, its tile count and its slots, and answers the first refusal, or that it is accepted.
+// The offered call: checks a list of an order, its tile count and its slots, and answers the first refusal, or that it
+// is accepted.
 pub fn check(order: u32, tiles: usize, slots: &[u32]) -> u32
     ensures { λ r. ⌜ r ≡ listCheck order tiles (now (slots .entry)) ⌝ }
 {

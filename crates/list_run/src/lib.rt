@@ -10,7 +10,8 @@ ghost use Rattle.quadtree.specs.Tiling.{tileRun};
 // Are the `count` words from `at` on the run of a size and an account from the corner on?
 pub fn is_run(list: &[u32], at: usize, count: usize, corner: u32, size: u32, account: u8) -> bool
     requires { ⌜ (at + count ≤ length (now list)) × (size ≤ highestOrder) × (corner + count * 4 ^ size < 2 ^ 32) ⌝ }
-    ensures { λ r. ⌜ Test (take count (drop at (map tileOf (now (list .entry)))) ≡ tileRun size account count corner) r ⌝ }
+    ensures { λ r. ⌜ Test (take count (drop at (map tileOf (now (list .entry)))) ≡ tileRun size account count corner)
+        r ⌝ }
 {
     let side = tile::area(size);
     let mut x = corner;
@@ -34,8 +35,10 @@ pub fn is_run(list: &[u32], at: usize, count: usize, corner: u32, size: u32, acc
 
 // Writes the run of `count` tiles of a size and an account from the corner on to the slots from `at` on.
 pub fn write_run(slots: &mut [u32], at: usize, count: usize, corner: u32, size: u32, account: u8)
-    requires { ⌜ (at + count ≤ length (now slots)) × (size ≤ highestOrder) × (account ≤ highestAccount) × (corner + count * 4 ^ size ≤ 4 ^ highestOrder) ⌝ }
-    ensures { λ r. ⌜ now (slots .exit) ≡ take at (now (slots .entry)) ++ (map wordOf (tileRun size account count corner) ++ drop (at + count) (now (slots .entry))) ⌝ }
+    requires { ⌜ (at + count ≤ length (now slots)) × (size ≤ highestOrder) × (account ≤ highestAccount)
+        × (corner + count * 4 ^ size ≤ 4 ^ highestOrder) ⌝ }
+    ensures { λ r. ⌜ now (slots .exit) ≡ take at (now (slots .entry))
+        ++ (map wordOf (tileRun size account count corner) ++ drop (at + count) (now (slots .entry))) ⌝ }
 {
     let side = tile::area(size);
     let mut x = corner;

@@ -1,5 +1,6 @@
 -- Where a Morton number falls among words: what the contracts of this crate cite. Definitions only.
---     Cut s i j z r   r lies from i to j; of the words between these, the tile of the one ahead of r starts below z, and that of the one at r does not
+--     Cut s i j z r   r lies from i to j; of the words between these, the tile of the one ahead of r starts below z,
+--                     and that of the one at r does not
 use Prim.Native.Nat.{ℕ, _-_, _≤_, _<_}
 use mathlib.Core.List.{List}
 use lib.ListN.{getD}

@@ -1,5 +1,7 @@
--- Where a Morton number falls among words by their tiles' stops: what the contract of that search cites. Definitions only.
---     FirstPast s from x r   r splits the tiles from `from` on at x: the tile just ahead of r stops by x, that at r past it
+-- Where a Morton number falls among words by their tiles' stops: what the contract of that search cites. Definitions
+-- only.
+--     FirstPast s from x r   r splits the tiles from `from` on at x: the tile just ahead of r stops by x, that at r
+--                            past it
 use mathlib.Core.List.{List}
 use Prim.Native.Nat.{ℕ, _-_, _≤_, _<_}
 use lib.ListN.{length, getD}

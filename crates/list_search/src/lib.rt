@@ -1,5 +1,5 @@
-// Where a Morton number falls among words, by where their tiles start or by where they stop. Nothing is asked of the words; in a valid list
-// there is one such place.
+// Where a Morton number falls among words, by where their tiles start or by where they stop. Nothing is asked of the
+// words; in a valid list there is one such place.
 ghost use mathlib.Core.Path.{_≡_};
 ghost use Prim.Native.Nat.{_≤_};
 ghost use lib.ListN.{length};
@@ -27,7 +27,8 @@ pub fn cut(slots: &[u32], from: usize, to: usize, z: u32) -> usize
     low
 }
 
-// The place of z from `from` on, where it is expected to be near: in steps that double, and by halves in the last of them.
+// The place of z from `from` on, where it is expected to be near: in steps that double, and by halves in the last of
+// them.
 pub fn reach(slots: &[u32], from: usize, z: u32) -> usize
     requires { ⌜ from ≤ length (now slots) ⌝ }
     ensures { λ r. ⌜ Cut (now (slots .entry)) from (length (now (slots .entry))) z r ⌝ }

@@ -27,7 +27,8 @@ pub fn clear_from(s: &mut [u32], from: usize)
 // Moves the words from `at` to `n` up by `k` places.
 pub fn move_up(s: &mut [u32], at: usize, n: usize, k: usize)
     requires { ⌜ (at ≤ n) × (n + k ≤ length (now s)) ⌝ }
-    ensures { λ r. ⌜ now (s .exit) ≡ take (at + k) (now (s .entry)) ++ slice at n (now (s .entry)) ++ drop (n + k) (now (s .entry)) ⌝ }
+    ensures { λ r. ⌜ now (s .exit) ≡ take (at + k) (now (s .entry)) ++ slice at n (now (s .entry))
+        ++ drop (n + k) (now (s .entry)) ⌝ }
 {
     let mut i = n;
     while at < i {
@@ -39,7 +40,8 @@ pub fn move_up(s: &mut [u32], at: usize, n: usize, k: usize)
 // Moves the words from `at + k` to `n` down by `k` places.
 pub fn move_down(s: &mut [u32], at: usize, n: usize, k: usize)
     requires { ⌜ (at + k ≤ n) × (n ≤ length (now s)) ⌝ }
-    ensures { λ r. ⌜ now (s .exit) ≡ take at (now (s .entry)) ++ slice (at + k) n (now (s .entry)) ++ drop (n - k) (now (s .entry)) ⌝ }
+    ensures { λ r. ⌜ now (s .exit) ≡ take at (now (s .entry)) ++ slice (at + k) n (now (s .entry))
+        ++ drop (n - k) (now (s .entry)) ⌝ }
 {
     let mut j = at;
     while j < n - k {

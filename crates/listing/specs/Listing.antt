@@ -1,6 +1,7 @@
 -- The listing that bedlist prints (document 01, "Worked beds"), as bytes. Definitions only.
 --     bedLine, tileLine, stopLine   the lines, each with its line feed
---     scanLines n t slots number taken   the lines of a bed of order n, of its t tiles in the slots, and of its feed's end
+--     scanLines n t slots number taken   the lines of a bed of order n, of its t tiles in the slots, and of its feed's
+--                                        end
 --     listedOrder               the highest order that is listed
 --     listedSlots               the slots that are lent
 --     listing input             the listing of an input: an order, then account bytes by rows
@@ -10,7 +11,8 @@
 -- and for the program:
 --     inputBytes                bedlist reads so much of its input: more changes no listing (law `listing-read`)
 --     listingBytes              bedlist lends so many bytes: every listing fits (law `listing-fits`)
---     Whole read out end new    every input of which `read` is read has a listing of length `end`, which is accepted and
+--     Whole read out end new    every input of which `read` is read has a listing of length `end`, which is accepted
+--                               and
 --                               leaves `new` in the bytes lent `out`
 use mathlib.Core.Path.{_≡_}
 use mathlib.Core.List.{List, [], _∷_, _++_}

@@ -101,7 +101,8 @@ fn write_scanned(
     out: &mut [u8],
 ) -> Listed
     requires { ⌜ (tiles ≤ length (now slots)) × (tiles ≤ listedSlots) ⌝ }
-    ensures { λ r. ⌜ Gives r (now (out .exit)) (listedIn (scanLines order tiles (now (slots .entry)) number taken) (now (out .entry))) ⌝ }
+    ensures { λ r. ⌜ Gives r (now (out .exit)) (listedIn (scanLines order tiles (now (slots .entry)) number taken)
+        (now (out .entry))) ⌝ }
 {
     let mut none = [0u8; 1];
     let length = put_scanned(

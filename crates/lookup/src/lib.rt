@@ -28,7 +28,8 @@ fn lookup_check(order: u32, tiles: usize, slots: &[u32], column: u32, row: u32) 
 
 // The account that a valid list shows at the Morton number z: only the last tile that starts by z can cover it.
 pub fn account_at(tiles: usize, slots: &[u32], z: u32) -> u8
-    requires { ⌜ (z < 4 ^ highestOrder) × (tiles ≤ length (now slots)) × ((n : ℕ) × Valid n (tilesIn tiles (now slots))) ⌝ }
+    requires { ⌜ (z < 4 ^ highestOrder) × (tiles ≤ length (now slots))
+        × ((n : ℕ) × Valid n (tilesIn tiles (now slots))) ⌝ }
     ensures { λ r. ⌜ r ≡ accountAt (tilesIn tiles (now (slots .entry))) z ⌝ }
 {
     let started = list_search::ahead(slots, tiles, z + 1);

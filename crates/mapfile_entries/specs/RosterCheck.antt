@@ -1,4 +1,5 @@
--- The roster section of a map file, checked against the tiles (document 01, "Refusals", the order of reading). Definitions only.
+-- The roster section of a map file, checked against the tiles (document 01, "Refusals", the order of reading).
+-- Definitions only.
 --     entriesAt q rs p    the q roster entries from p on
 --     rosterCheck ts rs   the roster section rs: 41 for its count, 41 for its entries, 42, 43
 use mathlib.Core.List.{List, [], _∷_}

@@ -16,7 +16,8 @@ ghost use Rattle.mapfile_entries.specs.RosterCheck.{entriesAt, rosterChe
 
 // The pixels that an account covers.
 fn total(account: u8, order: u32, tiles: usize, file: &[u8]) -> u32
-    requires { ⌜ (order ≤ highestOrder) × (rosterPlace tiles ≤ length (now file)) × Valid order (map tileOf (wordsAt tiles (now file) wordsPlace)) ⌝ }
+    requires { ⌜ (order ≤ highestOrder) × (rosterPlace tiles ≤ length (now file))
+        × Valid order (map tileOf (wordsAt tiles (now file) wordsPlace)) ⌝ }
     ensures { λ r. ⌜ r ≡ covered account (map tileOf (wordsAt tiles (now (file .entry)) wordsPlace)) ⌝ }
 {
     let mut sum = 0;
@@ -65,8 +66,12 @@ fn entry_good(
     section: &[u8],
     p: usize,
 ) -> bool
-    requires { ⌜ (order ≤ highestOrder) × (rosterPlace tiles ≤ length (now file)) × Valid order (map tileOf (wordsAt tiles (now file) wordsPlace)) × (rosterLength entries ≤ length (now section)) × (p + entryLength ≤ length (now section)) ⌝ }
-    ensures { λ r. ⌜ r ≡ entryGood (map tileOf (wordsAt tiles (now (file .entry)) wordsPlace)) (entriesAt entries (now (section .entry)) entriesPlace) (record { account = getD (now (section .entry)) p 0; pixels = wordAt (now (section .entry)) (p + 1) }) ⌝ }
+    requires { ⌜ (order ≤ highestOrder) × (rosterPlace tiles ≤ length (now file))
+        × Valid order (map tileOf (wordsAt tiles (now file) wordsPlace)) × (rosterLength entries ≤ length (now section))
+        × (p + entryLength ≤ length (now section)) ⌝ }
+    ensures { λ r. ⌜ r ≡ entryGood (map tileOf (wordsAt tiles (now (file .entry)) wordsPlace))
+        (entriesAt entries (now (section .entry)) entriesPlace)
+        (record { account = getD (now (section .entry)) p 0; pixels = wordAt (now (section .entry)) (p + 1) }) ⌝ }
 {
     let account = section[p];
     let pixels = total(account, order, tiles, file);
@@ -84,8 +89,12 @@ fn entry_good(
 
 // Every entry does.
 fn entries_good(order: u32, tiles: usize, file: &[u8], entries: usize, section: &[u8]) -> bool
-    requires { ⌜ (order ≤ highestOrder) × (rosterPlace tiles ≤ length (now file)) × Valid order (map tileOf (wordsAt tiles (now file) wordsPlace)) × (rosterLength entries ≤ length (now section)) ⌝ }
-    ensures { λ r. ⌜ r ≡ entriesGood (map tileOf (wordsAt tiles (now (file .entry)) wordsPlace)) (entriesAt entries (now (section .entry)) entriesPlace) (entriesAt entries (now (section .entry)) entriesPlace) ⌝ }
+    requires { ⌜ (order ≤ highestOrder) × (rosterPlace tiles ≤ length (now file))
+        × Valid order (map tileOf (wordsAt tiles (now file) wordsPlace))
+        × (rosterLength entries ≤ length (now section)) ⌝ }
+    ensures { λ r. ⌜ r ≡ entriesGood (map tileOf (wordsAt tiles (now (file .entry)) wordsPlace))
+        (entriesAt entries (now (section .entry)) entriesPlace)
+        (entriesAt entries (now (section .entry)) entriesPlace) ⌝ }
 {
     let mut j = 0;
     let mut p = mapfile_bytes::ENTRIES_PLACE;
@@ -129,7 +138,8 @@ fn named(entries: usize, section: &[u8]) -> u64
 // Each tile's account has an entry.
 fn tiles_listed(tiles: usize, file: &[u8], entries: usize, section: &[u8]) -> bool
     requires { ⌜ (rosterPlace tiles ≤ length (now file)) × (rosterLength entries ≤ length (now section)) ⌝ }
-    ensures { λ r. ⌜ r ≡ tilesListed (entriesAt entries (now (section .entry)) entriesPlace) (map tileOf (wordsAt tiles (now (file .entry)) wordsPlace)) ⌝ }
+    ensures { λ r. ⌜ r ≡ tilesListed (entriesAt entries (now (section .entry)) entriesPlace)
+        (map tileOf (wordsAt tiles (now (file .entry)) wordsPlace)) ⌝ }
 {
     let set = named(entries, section);
     let mut i = 0;
@@ -146,8 +156,11 @@ fn tiles_listed(tiles: usize, file: &[u8], entries: usize, section: &[u8]) -> bo
 
 // The entries of a section are the roster of the tiles.
 fn roster_good(order: u32, tiles: usize, file: &[u8], entries: usize, section: &[u8]) -> bool
-    requires { ⌜ (order ≤ highestOrder) × (rosterPlace tiles ≤ length (now file)) × Valid order (map tileOf (wordsAt tiles (now file) wordsPlace)) × (rosterLength entries ≤ length (now section)) ⌝ }
-    ensures { λ r. ⌜ r ≡ rosterGood (map tileOf (wordsAt tiles (now (file .entry)) wordsPlace)) (entriesAt entries (now (section .entry)) entriesPlace) ⌝ }
+    requires { ⌜ (order ≤ highestOrder) × (rosterPlace tiles ≤ length (now file))
+        × Valid order (map tileOf (wordsAt tiles (now file) wordsPlace))
+        × (rosterLength entries ≤ length (now section)) ⌝ }
+    ensures { λ r. ⌜ r ≡ rosterGood (map tileOf (wordsAt tiles (now (file .entry)) wordsPlace))
+        (entriesAt entries (now (section .entry)) entriesPlace) ⌝ }
 {
     let good = entries_good(order, tiles, file, entries, section);
     if !good {
@@ -158,8 +171,10 @@ fn roster_good(order: u32, tiles: usize, file: &[u8], entries: usize, section: &
 
 // The first refusal of the roster section of a file whose words are a valid list, or that it is accepted.
 pub fn check(order: u32, tiles: usize, file: &[u8], section: &[u8]) -> u32
-    requires { ⌜ (order ≤ highestOrder) × (rosterPlace tiles ≤ length (now file)) × Valid order (map tileOf (wordsAt tiles (now file) wordsPlace)) ⌝ }
-    ensures { λ r. ⌜ r ≡ rosterCheck (map tileOf (wordsAt tiles (now (file .entry)) wordsPlace)) (now (section .entry)) ⌝ }
+    requires { ⌜ (order ≤ highestOrder) × (rosterPlace tiles ≤ length (now file))
+        × Valid order (map tileOf (wordsAt tiles (now file) wordsPlace)) ⌝ }
+    ensures { λ r. ⌜ r ≡ rosterCheck (map tileOf (wordsAt tiles (now (file .entry)) wordsPlace))
+        (now (section .entry)) ⌝ }
 {
     if section.len() < 1 {
         return refusal::FILE_CUT_SHORT;

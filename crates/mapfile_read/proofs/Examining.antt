@@ -20,7 +20,7 @@ use Rattle.mapfile_read.specs.declared.Reading.{Reading}
 use Rattle.mapfile_read.specs.Reader.{tilesCheck, fileOrder, fileCount, fileWords, fileCheck, readOf}
 use Rattle.mapfile_read.specs.Examined.{refusedWith, examined}
 use Rattle.mapfile_read.proofs.ReaderLaws.{readOf-valid, readOf-accepted}
-use Rattle.mapfile_read.proofs.Stores.{store-clear, part-end}
+use Rattle.mapfile_read.proofs.ReadStores.{store-clear, part-end}
 
 pub record Head (m : ℕ) (bs : List ℕ) (n t : ℕ) : Type 0 where
   pub whole : 5 ≤ length bs

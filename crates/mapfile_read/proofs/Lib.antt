@@ -1,5 +1,5 @@
 -- Laws of the reader.
-pub mod InTurn
+pub mod WordsInTurn
 pub mod ReaderLaws
-pub mod Stores
+pub mod ReadStores
 pub mod Examining

@@ -1,4 +1,5 @@
--- The reader of a map file (document 01, "Refusals", the order of reading). Definitions only, by position in the bytes of the file.
+-- The reader of a map file (document 01, "Refusals", the order of reading). Definitions only, by position in the bytes
+-- of the file.
 --     tilesCheck n t seen bs p  word by word: 41 where the bytes end before it, then 11 to 16 as in list checking
 --     fileCheck m bs            the reader's number with m slots: 41, 1, 41, 25, the words, the roster
 --     fileOrder, fileCount, fileWords   the items of a file
@@ -49,7 +50,17 @@ unfoldable pub readOf : List ℕ → List ℕ → After Reading
 readOf bs slots =
     unless (fileCheck (length slots) bs)
     (λ number. record { answer = record { number = number; order = 0; tiles = 0 }; storage = slots })
-    (record { answer = record { number = accepted; order = fileOrder bs; tiles = fileCount bs }; storage = fileWords bs ++ replicate (length slots - fileCount bs) 0 })
+    (record {
+      answer = record { number = accepted; order = fileOrder bs; tiles = fileCount bs };
+      storage = fileWords bs
+          ++ replicate (length slots - fileCount bs) 0;
+    })
 
 abbrev pub readBed : List ℕ → Bed
-readBed bs = record { order = fileOrder bs; kind = Rows; scanned = 4 ^ fileOrder bs; account = accountAt (map tileOf (fileWords bs)) }
+readBed bs = record {
+  order = fileOrder bs;
+  kind = Rows;
+  scanned = 4 ^ fileOrder bs;
+  account =
+      accountAt (map tileOf (fileWords bs));
+}

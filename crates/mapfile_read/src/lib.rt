@@ -3,7 +3,7 @@ ghost use mathlib.Core.Path.{_≡_};
 ghost use mathlib.Core.List.{[], _++_};
 ghost use Prim.Native.Nat.{_≤_};
 ghost use lib.ListN.{length, drop};
-ghost use Rattle.refusal.specs.Checks.{After};
+ghost use Rattle.refusal.specs.Checks.{Gives};
 ghost use Rattle.tile.specs.Tile.{highestOrder};
 ghost use Rattle.mapfile_bytes.specs.Layout.{wordsPlace, rosterPlace};
 ghost use Rattle.mapfile_bytes.specs.Items.{wordsAt};
@@ -90,7 +90,8 @@ fn examine(slots: usize, file: &[u8]) -> Reading
 // The words of the file into the slots.
 fn store(tiles: usize, file: &[u8], slots: &mut [u32])
     requires { ⌜ (rosterPlace tiles ≤ length (now file)) × (tiles ≤ length (now slots)) ⌝ }
-    ensures { λ r. ⌜ now (slots .exit) ≡ wordsAt tiles (now (file .entry)) wordsPlace ++ drop tiles (now (slots .entry)) ⌝ }
+    ensures { λ r. ⌜ now (slots .exit) ≡ wordsAt tiles (now (file .entry)) wordsPlace
+        ++ drop tiles (now (slots .entry)) ⌝ }
 {
     let mut i = 0;
     let mut p = mapfile_bytes::WORDS_PLACE;
@@ -104,7 +105,7 @@ fn store(tiles: usize, file: &[u8], slots: &mut [u32])
 // The offered call: reads a file and leaves its list in the slots, the rest of them 0, or answers the first refusal and
 // changes no slot.
 pub fn read(file: &[u8], slots: &mut [u32]) -> Reading
-    ensures { λ r. ⌜ _≡_ {A = After Reading} (record { answer = r; storage = now (slots .exit) }) (readOf (now (file .entry)) (now (slots .entry))) ⌝ }
+    ensures { λ r. ⌜ Gives r (now (slots .exit)) (readOf (now (file .entry)) (now (slots .entry))) ⌝ }
 {
     let reading = examine(slots.len(), file);
     if reading.number != refusal::ACCEPTED {

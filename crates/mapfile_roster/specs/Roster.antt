@@ -1,9 +1,11 @@
--- The roster of a map file (document 01, "The map file"): each account of the tiles once, with the pixels it covers. Definitions only.
+-- The roster of a map file (document 01, "The map file"): each account of the tiles once, with the pixels it covers.
+-- Definitions only.
 --     covered a ts         how many pixels the tiles of account a cover
 --     Entry                an account and its pixels
 --     rosterOf ts          the roster as the writer lists it: by rising account
 --     listed a es          how many entries are the account's
---     rosterGood ts es     each entry has an account of the tiles with its pixels, and is its only one; each tile's account has an entry.
+--     rosterGood ts es     each entry has an account of the tiles with its pixels, and is its only one; each tile's
+--                          account has an entry.
 --                          The order is open
 use mathlib.Core.Bool.{Bool, true, _&&_}
 use mathlib.Core.List.{List, [], _∷_}
@@ -36,7 +38,8 @@ listed a [] = 0
 listed a (e ∷ es) = if (eqb (e .account) a) 1 0 + listed a es
 
 unfoldable pub entryGood : List Tile → List Entry → Entry → Bool
-entryGood ts all e = ltb 0 (covered (e .account) ts) && (eqb (e .pixels) (covered (e .account) ts) && eqb (listed (e .account) all) 1)
+entryGood ts all e = ltb 0 (covered (e .account) ts) &&
+    (eqb (e .pixels) (covered (e .account) ts) && eqb (listed (e .account) all) 1)
 
 unfoldable pub entriesGood : List Tile → List Entry → List Entry → Bool
 entriesGood ts all [] = true

@@ -1,4 +1,5 @@
--- The sections of a map file as bytes (document 01, "The map file"). Definitions only. All numbers stand high byte first.
+-- The sections of a map file as bytes (document 01, "The map file"). Definitions only. All numbers stand high byte
+-- first.
 --     wordBytes w       a number in 4 bytes
 --     wordsBytes ws     numbers in 4 bytes each
 --     entriesBytes es   roster entries in 5 bytes each

@@ -1,4 +1,5 @@
-// The sections of a map file, stored into bytes: words, and the roster, which is counted from the list with a pass for each account that has tiles.
+// The sections of a map file, stored into bytes: words, and the roster, which is counted from the list with a pass for
+// each account that has tiles.
 ghost use mathlib.Core.Path.{_≡_};
 ghost use Prim.Native.Nat.{_+_, _*_, _%_, _≤_};
 ghost use lib.Dec.{ltb};
@@ -84,9 +85,11 @@ pub fn accounts(tiles: usize, slots: &[u32]) -> usize
     u64::count_ones(set >> LOWEST_ACCOUNT) as usize
 }
 
-// The pixels that an account covers: none where it is not in the set of the accounts that have tiles, else one pass over the list.
+// The pixels that an account covers: none where it is not in the set of the accounts that have tiles, else one pass
+// over the list.
 fn pixels_of(set: u64, account: u8, order: u32, tiles: usize, slots: &[u32]) -> u32
-    requires { ⌜ (account ≤ highestAccount) × SetOf (λ a. ltb 0 (covered a (tilesIn tiles (now slots)))) set × (order ≤ highestOrder) × (tiles ≤ length (now slots)) × Valid order (tilesIn tiles (now slots)) ⌝ }
+    requires { ⌜ (account ≤ highestAccount) × SetOf (λ a. ltb 0 (covered a (tilesIn tiles (now slots)))) set
+        × (order ≤ highestOrder) × (tiles ≤ length (now slots)) × Valid order (tilesIn tiles (now slots)) ⌝ }
     ensures { λ r. ⌜ r ≡ covered account (tilesIn tiles (now (slots .entry))) ⌝ }
 {
     if !mapfile_roster::has(set, account) {
@@ -98,7 +101,8 @@ fn pixels_of(set: u64, account: u8, order: u32, tiles: usize, slots: &[u32]) -> 
 // The entry of an account that covers pixels into the bytes from `p` on; answers where the next one goes.
 fn put_entry(file: &mut [u8], p: usize, account: u8, pixels: u32) -> usize
     requires { ⌜ p + 5 * length (entryOf account pixels) ≤ length (now file) ⌝ }
-    ensures { λ r. ⌜ (r ≡ p + 5 * length (entryOf account pixels)) × (now (file .exit) ≡ sets (now (file .entry)) p (entriesBytes (entryOf account pixels))) ⌝ }
+    ensures { λ r. ⌜ (r ≡ p + 5 * length (entryOf account pixels))
+        × (now (file .exit) ≡ sets (now (file .entry)) p (entriesBytes (entryOf account pixels))) ⌝ }
 {
     if pixels == 0 {
         return p;
@@ -110,8 +114,10 @@ fn put_entry(file: &mut [u8], p: usize, account: u8, pixels: u32) -> usize
 
 // The roster's entries, by rising account, into the bytes from `at` on.
 fn put_entries(order: u32, tiles: usize, slots: &[u32], at: usize, file: &mut [u8])
-    requires { ⌜ (order ≤ highestOrder) × (tiles ≤ length (now slots)) × Valid order (tilesIn tiles (now slots)) × (at + 5 * length (rosterOf (tilesIn tiles (now slots))) ≤ length (now file)) ⌝ }
-    ensures { λ r. ⌜ now (file .exit) ≡ sets (now (file .entry)) at (entriesBytes (rosterOf (tilesIn tiles (now (slots .entry))))) ⌝ }
+    requires { ⌜ (order ≤ highestOrder) × (tiles ≤ length (now slots)) × Valid order (tilesIn tiles (now slots))
+        × (at + 5 * length (rosterOf (tilesIn tiles (now slots))) ≤ length (now file)) ⌝ }
+    ensures { λ r. ⌜ now (file .exit) ≡ sets (now (file .entry)) at
+        (entriesBytes (rosterOf (tilesIn tiles (now (slots .entry))))) ⌝ }
 {
     let set = tiled(tiles, slots);
     let mut p = at;
@@ -125,8 +131,10 @@ fn put_entries(order: u32, tiles: usize, slots: &[u32], at: usize, file: &mut [u
 
 // The roster section into its part of a file: the count of its entries, and the entries behind it.
 pub fn put_roster(order: u32, tiles: usize, slots: &[u32], accounts: usize, section: &mut [u8])
-    requires { ⌜ (order ≤ highestOrder) × (tiles ≤ length (now slots)) × Valid order (tilesIn tiles (now slots)) × (accounts ≡ length (rosterOf (tilesIn tiles (now slots)))) × (1 + 5 * accounts ≤ length (now section)) ⌝ }
-    ensures { λ r. ⌜ now (section .exit) ≡ sets (now (section .entry)) 0 (rosterBytes (rosterOf (tilesIn tiles (now (slots .entry))))) ⌝ }
+    requires { ⌜ (order ≤ highestOrder) × (tiles ≤ length (now slots)) × Valid order (tilesIn tiles (now slots))
+        × (accounts ≡ length (rosterOf (tilesIn tiles (now slots)))) × (1 + 5 * accounts ≤ length (now section)) ⌝ }
+    ensures { λ r. ⌜ now (section .exit) ≡ sets (now (section .entry)) 0
+        (rosterBytes (rosterOf (tilesIn tiles (now (slots .entry))))) ⌝ }
 {
     section[0] = accounts as u8;
     put_entries(order, tiles, slots, 1, section);

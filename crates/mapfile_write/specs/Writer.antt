@@ -21,11 +21,16 @@ unfoldable pub fileOf : ℕ → List Tile → List ℕ
 fileOf n ts = n ∷ (wordBytes (length ts) ++ (wordsBytes (map wordOf ts) ++ rosterBytes (rosterOf ts)))
 
 unfoldable pub writeCheck : ℕ → ℕ → List ℕ → List ℕ → ℕ
-writeCheck n t slots file = orElse (listCheck n t slots) (must (leb (length (fileOf n (tilesIn t slots))) (length file)) bytesTooFew accepted)
+writeCheck n t slots file = orElse (listCheck n t slots)
+    (must (leb (length (fileOf n (tilesIn t slots))) (length file)) bytesTooFew accepted)
 
 unfoldable pub writeOf : ℕ → ℕ → List ℕ → List ℕ → After Written
 writeOf n t slots file =
     let bytes : List ℕ = fileOf n (tilesIn t slots) in
     unless (writeCheck n t slots file)
     (λ number. record { answer = record { number = number; length = 0 }; storage = file })
-    (record { answer = record { number = accepted; length = length bytes }; storage = bytes ++ drop (length bytes) file })
+    (record {
+      answer = record { number = accepted; length = length bytes };
+      storage = bytes
+          ++ drop (length bytes) file;
+    })

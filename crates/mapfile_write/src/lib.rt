@@ -19,8 +19,11 @@ pub struct Written {
 
 // The whole file of a valid list, which the bytes have room for.
 fn put_file(order: u32, tiles: usize, slots: &[u32], accounts: usize, file: &mut [u8])
-    requires { ⌜ (order ≤ highestOrder) × (tiles ≤ length (now slots)) × Valid order (tilesIn tiles (now slots)) × (accounts ≡ length (rosterOf (tilesIn tiles (now slots)))) × (6 + 4 * tiles + 5 * accounts ≤ length (now file)) ⌝ }
-    ensures { λ r. ⌜ now (file .exit) ≡ sets (now (file .entry)) 0 (fileOf order (tilesIn tiles (now (slots .entry)))) ⌝ }
+    requires { ⌜ (order ≤ highestOrder) × (tiles ≤ length (now slots)) × Valid order (tilesIn tiles (now slots))
+        × (accounts ≡ length (rosterOf (tilesIn tiles (now slots))))
+        × (6 + 4 * tiles + 5 * accounts ≤ length (now file)) ⌝ }
+    ensures { λ r. ⌜ now (file .exit) ≡ sets (now (file .entry)) 0
+        (fileOf order (tilesIn tiles (now (slots .entry)))) ⌝ }
 {
     file[0] = order as u8;
     mapfile_sections::put(file, 1, tiles as u32);

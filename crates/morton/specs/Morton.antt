@@ -1,5 +1,6 @@
 -- Morton numbers (document 01, "What the product holds"; document 001). Definitions only.
---     morton n c r   the Morton number of column c and row r, n bits of each: with c = (..a1 a0) and r = (..b1 b0), (..b1 a1 b0 a0)
+--     morton n c r   the Morton number of column c and row r, n bits of each: with c = (..a1 a0) and r = (..b1 b0),
+--                    (..b1 a1 b0 a0)
 --     column n z     the column of the Morton number z, of n bits: the bits of z at even places
 --     row n z        the row of the Morton number z, of n bits: the bits of z at odd places
 --     sideBits       the bits of a column or a row in code: columns and rows below 1,024

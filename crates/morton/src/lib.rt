@@ -1,4 +1,5 @@
-// Morton numbers by interleaving bits, for columns and rows of ten bits. Higher bits are dropped, so that each function takes every u32.
+// Morton numbers by interleaving bits, for columns and rows of ten bits. Higher bits are dropped, so that each function
+// takes every u32.
 ghost use mathlib.Core.Path.{_≡_};
 ghost use Rattle.morton.specs.Morton.{morton, column, row, sideBits};
 

@@ -1,7 +1,9 @@
--- Quadrant part (document 01, "Other calls"): the run of a list whose tiles lie wholly inside a quadrant. Definitions only.
+-- Quadrant part (document 01, "Other calls"): the run of a list whose tiles lie wholly inside a quadrant. Definitions
+-- only.
 --     isInside c k u                the tile u lies wholly inside the block of size k at the corner c
 --     partCheck ..                  1, 2, 11 to 16, then 32
---     partOf n t slots c k          the companion: the part's position, behind all tiles with a smaller corner, and its length
+--     partOf n t slots c k          the companion: the part's position, behind all tiles with a smaller corner, and its
+--                                   length
 --     sliceOf n t slots c k         the words of the part; none if refused
 --     wordsIn p i                   the place i words of 4 bytes into a slice that starts at the place p;
 --                                   a place is a block of memory and a byte offset in it
@@ -30,7 +32,12 @@ unfoldable pub partOf : ℕ → ℕ → List ℕ → ℕ → ℕ → Part
 partOf n t slots c k =
     unless (partCheck n t slots c k)
     (λ number. record { number = number; position = 0; length = 0 })
-    (record { number = accepted; position = counted (isAhead c) (tilesIn t slots); length = counted (isInside c k) (tilesIn t slots) })
+    (record {
+      number = accepted;
+      position = counted (isAhead c) (tilesIn t slots);
+      length =
+          counted (isInside c k) (tilesIn t slots);
+    })
 
 unfoldable pub sliceOf : ℕ → ℕ → List ℕ → ℕ → ℕ → List ℕ
 sliceOf n t slots c k = take (partOf n t slots c k .length) (drop (partOf n t slots c k .position) slots)

@@ -28,7 +28,13 @@ fn part_check(order: u32, tiles: usize, slots: &[u32], corner: u32, size: u32) -
 // The part of a valid list inside a quadrant: the tiles that start in it, unless the first of them is larger than it.
 fn inside(tiles: usize, slots: &[u32], corner: u32, size: u32) -> Part
     requires { ⌜ ((n : ℕ) × (partCheck n tiles (now slots) corner size ≡ accepted)) ⌝ }
-    ensures { λ r. ⌜ r ≡ record { number = accepted; position = counted (isAhead corner) (tilesIn tiles (now (slots .entry))); length = counted (isInside corner size) (tilesIn tiles (now (slots .entry))) } ⌝ }
+    ensures { λ r. ⌜ r ≡ record {
+      number = accepted;
+      position =
+          counted (isAhead corner) (tilesIn tiles (now (slots .entry)));
+      length =
+          counted (isInside corner size) (tilesIn tiles (now (slots .entry)));
+    } ⌝ }
 {
     let position = list_search::ahead(slots, tiles, corner);
     let end = list_search::ahead(slots, tiles, corner + tile::area(size));
@@ -53,7 +59,8 @@ fn inside(tiles: usize, slots: &[u32], corner: u32, size: u32) -> Part
     }
 }
 
-// The companion, offered: the part's position, behind all tiles with a smaller corner, and its length; refused, the first refusal and zeros.
+// The companion, offered: the part's position, behind all tiles with a smaller corner, and its length; refused, the
+// first refusal and zeros.
 pub fn quadrant_part(order: u32, tiles: usize, slots: &[u32], corner: u32, size: u32) -> Part
     ensures { λ r. ⌜ r ≡ partOf order tiles (now (slots .entry)) corner size ⌝ }
 {
@@ -71,7 +78,8 @@ pub fn quadrant_part(order: u32, tiles: usize, slots: &[u32], corner: u32, size:
 // The offered call: the tiles inside a quadrant, as a part of the lent slots. It starts as many words into the caller's
 // own memory as the companion's position says, also when empty; refused, that is 0: the empty part at the slots' start.
 pub fn quadrant_slice(order: u32, tiles: usize, slots: &[u32], corner: u32, size: u32) -> &[u32]
-    ensures { λ r. ⌜ r .ptr ≡ wordsIn (slots .entry .ptr) (partOf order tiles (now (slots .entry)) corner size .position) ⌝ }
+    ensures { λ r. ⌜ r .ptr ≡ wordsIn (slots .entry .ptr)
+        (partOf order tiles (now (slots .entry)) corner size .position) ⌝ }
     ensures { λ r. ⌜ now r ≡ sliceOf order tiles (now (slots .entry)) corner size ⌝ }
 {
     let part = quadrant_part(order, tiles, slots, corner, size);

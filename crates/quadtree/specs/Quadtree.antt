@@ -1,7 +1,9 @@
--- The linear quadtree of a raster (document 01, "What the product holds"; document 001 decides what is stored). Definitions only.
+-- The linear quadtree of a raster (document 01, "What the product holds"; document 001 decides what is stored).
+-- Definitions only.
 --     Largest n f t           t is a largest uniform block of a non-zero account, in the raster f of order n
 --     Rising lo ts            the corners of ts rise strictly, and none is below lo
---     LinearQuadtree n f ts   ts is the linear quadtree of f: its largest uniform blocks of non-zero accounts, by rising corner
+--     LinearQuadtree n f ts   ts is the linear quadtree of f: its largest uniform blocks of non-zero accounts, by
+--                             rising corner
 --     blocks f k c            the linear quadtree as a program, of the quadrant of size k at the corner c
 --     quadtree n f            the same of the bed of order n
 -- That `quadtree n f` is the `LinearQuadtree` is the law `quadtree-linear`.
@@ -16,7 +18,8 @@ use Rattle.quadtree.specs.Raster.{Aligned, Uniform, uniform, Quadrant, _
 pub record Largest (n : ℕ) (f : ℕ → ℕ) (t : Tile) : Type 0 where
   pub quadrant : Quadrant n t
   pub uniform : Uniform f (t .account) (t .corner) (stop t)
-  pub top : (k c : ℕ) → t .size < k → k ≤ n → Aligned k c → c ≤ t .corner → t .corner < c + 4 ^ k → Uniform f (t .account) c (c + 4 ^ k) → ⊥
+  pub top : (k c : ℕ) → t .size < k → k ≤ n → Aligned k c → c ≤ t .corner → t .corner < c + 4 ^ k →
+      Uniform f (t .account) c (c + 4 ^ k) → ⊥
 
 pub data Rising : ℕ → List Tile → Type 0 where
   end : {lo : ℕ} → Rising lo []
@@ -39,7 +42,8 @@ four g k c = g c ++ (g (c + 4 ^ k) ++ (g (c + 2 * 4 ^ k) ++ g (c + 3 * 4 ^ k)))
 unfoldable pub blocks : (ℕ → ℕ) → ℕ → ℕ → List Tile
 unfolding four
 blocks f zero c = single c zero (f c)
-blocks f (suc k) c = elim (uniform f (f c) c (4 ^ suc k)) [ true ↦ single c (suc k) (f c) | false ↦ four (λ x. blocks f k x) k c ]
+blocks f (suc k) c = elim (uniform f (f c) c (4 ^ suc k))
+    [ true ↦ single c (suc k) (f c) | false ↦ four (λ x. blocks f k x) k c ]
 
 unfoldable pub quadtree : ℕ → (ℕ → ℕ) → List Tile
 quadtree n f = blocks f n 0

@@ -2,7 +2,8 @@
 -- A raster is a function from Morton number to account, of which the numbers below 4 ^ n are the bed's.
 --     Aligned k x         x is a multiple of 4 ^ k; `aligned` is the test
 --     Covers t z          the tile t covers the number z; `covers` is the test
---     Uniform f a lo hi   the raster f has the account a at each number from lo up to hi, hi left out; `uniform` is the test
+--     Uniform f a lo hi   the raster f has the account a at each number from lo up to hi, hi left out; `uniform` is the
+--                         test
 --     accountAt ts z      the account of the first tile of ts that covers z, or 0
 --     paint f lo hi a     the raster f with the account a at the numbers from lo up to hi
 --     Quadrant n t        t is a quadrant tile of a bed of order n
@@ -44,7 +45,8 @@ accountAt (t ∷ ts) z = elim (covers t z) [ true ↦ t .account | false ↦ acc
 unfoldable pub paint : (ℕ → ℕ) → ℕ → ℕ → ℕ → ℕ → ℕ
 paint f lo hi a z = elim (leb lo z && ltb z hi) [ true ↦ a | false ↦ f z ]
 
--- "A tile of size k (0 to n) covers a square .. Its corner is .. a multiple of 4^k"; no bound on the account is needed but that it is somebody's
+-- "A tile of size k (0 to n) covers a square .. Its corner is .. a multiple of 4^k"; no bound on the account is needed
+-- but that it is somebody's
 pub record Quadrant (n : ℕ) (t : Tile) : Type 0 where
   pub fits : t .size ≤ n
   pub inside : t .corner < 4 ^ n
@@ -54,7 +56,8 @@ pub record Quadrant (n : ℕ) (t : Tile) : Type 0 where
 abbrev pub _∈_ : Tile → List Tile → Type 0
 t ∈ ts = List·Memᴰ t ts
 
--- "every tile on a somebody's pixel bears that pixel's account, at least one such tile is there, and no tile lies on a nobody's pixel"
+-- "every tile on a somebody's pixel bears that pixel's account, at least one such tile is there, and no tile lies on a
+-- nobody's pixel"
 pub record Shows (n : ℕ) (f : ℕ → ℕ) (ts : List Tile) : Type 0 where
   pub quadrants : (t : Tile) → t ∈ ts → Quadrant n t
   pub bears : (z : ℕ) → z < 4 ^ n → 0 < f z → (t : Tile) → t ∈ ts → Covers t z → t .account ≡ f z

@@ -1,4 +1,5 @@
--- Tilings: lists of tiles that tile a stretch of a raster, which the contracts of inner functions cite. Definitions only.
+-- Tilings: lists of tiles that tile a stretch of a raster, which the contracts of inner functions cite. Definitions
+-- only.
 --     On f t               t is aligned, somebody's, and the raster f has its account on all of it
 --     Next f lo t          t is the next tile at or behind lo: what lies between is nobody's
 --     Tiling f hi lo ts    ts tiles the raster f from lo up to hi, by rising corner, with no overlap
@@ -35,4 +36,5 @@ pub record Between (g : ℕ → ℕ) (n : ℕ) (a b : List Tile) (t : Tile) : Ty
   pub on : On g t
 
 abbrev pub Apart : List Tile → List Tile → Tile → Type 0
-Apart a b t = (j p : ℕ) (h r : List Tile) → j ≤ 3 → Aligned (suc (t .size)) p → t .corner ≡ p + j * 4 ^ t .size → a ≡ h ++ tileRun (t .size) (t .account) j p → b ≡ tileRun (t .size) (t .account) (3 - j) (stop t) ++ r → ⊥
+Apart a b t = (j p : ℕ) (h r : List Tile) → j ≤ 3 → Aligned (suc (t .size)) p → t .corner ≡ p + j * 4 ^ t .size → a ≡ h
+    ++ tileRun (t .size) (t .account) j p → b ≡ tileRun (t .size) (t .account) (3 - j) (stop t) ++ r → ⊥

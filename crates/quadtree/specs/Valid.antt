@@ -1,8 +1,10 @@
 -- Valid tile lists: those that pass checks 11 to 16 of document 01 as tiles. Definitions only.
 --     Sound n lo t      checks 12 to 15 of the tile t, where the tile ahead of it ends at lo
 --     Chain n lo ts     each tile of ts is sound, and the tile ahead of the first ends at lo
---     quarter k a p i   the i-th of the four quadrants, NW, NE, SW, SE, of the block of size k + 1 at the corner p, of the account a
---     Merged ts         check 16: no four siblings (01's brothers), the four quadrants of one block with one account, are all in ts
+--     quarter k a p i   the i-th of the four quadrants, NW, NE, SW, SE, of the block of size k + 1 at the corner p, of
+--                       the account a
+--     Merged ts         check 16: no four siblings (01's brothers), the four quadrants of one block with one account,
+--                       are all in ts
 --     Valid n ts        ts is a valid list of order n
 use mathlib.Core.List.{List, [], _∷_}
 use Prim.Native.Nat.{ℕ, suc, _+_, _*_, _^_, _≤_, _<_}

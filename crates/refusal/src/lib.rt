@@ -1,4 +1,5 @@
-// The refusal numbers of every call, under the name of the condition met. specs/Refusal.antt has the same list for the definitions.
+// The refusal numbers of every call, under the name of the condition met. specs/Refusal.antt has the same list for the
+// definitions.
 
 pub const ACCEPTED: u32 = 0;
 

@@ -11,7 +11,8 @@ pub struct Right {
     pub yes: bool,
 }
 
-// The rows of the table. Accounts up to LAST_STAFF are staff, from there up to LAST_STUDENT students, the others guests.
+// The rows of the table. Accounts up to LAST_STAFF are staff, from there up to LAST_STUDENT students, the others
+// guests.
 const STAFF: usize = 0;
 
 const STUDENT: usize = 1;
@@ -48,7 +49,8 @@ fn class_of(account: u8) -> usize
     GUEST
 }
 
-// The column of a pixel for the asking account: those of others' pixels go by the holder's class, from the last column on.
+// The column of a pixel for the asking account: those of others' pixels go by the holder's class, from the last column
+// on.
 fn pixel_kind(asking: u8, holder: u8) -> usize
     ensures { λ r. ⌜ r ≡ pixelKind asking holder ⌝ }
 {

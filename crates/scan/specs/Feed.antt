@@ -1,6 +1,8 @@
 -- Feed (document 01, "Scanning"), through the plain bed. Definitions only.
---     feedOf c slots bytes    the offered call: refused by its opening checks it changes nothing; past them it answers what the feed of
---                             the plain bed answers, and leaves the linear quadtree of the bed that this leaves, with the other slots 0
+--     feedOf c slots bytes    the offered call: refused by its opening checks it changes nothing; past them it answers
+--                             what the feed of
+--                             the plain bed answers, and leaves the linear quadtree of the bed that this leaves, with
+-- the other slots 0
 use mathlib.Core.List.{List}
 use Prim.Native.Nat.{ℕ}
 use lib.ListN.{length}
@@ -20,7 +22,12 @@ unfoldable pub fedTo : ℕ → bed.BedFed → After Fed
 fedTo m r =
     let ts : List Tile = quadtree (r .bed .order) (r .bed .account) in
     record {
-      answer = record { number = r .number; taken = r .taken; scan = scanOf (r .bed .kind) (r .bed .order) (r .bed .scanned) (length ts) };
+      answer = record {
+        number = r .number;
+        taken = r .taken;
+        scan =
+            scanOf (r .bed .kind) (r .bed .order) (r .bed .scanned) (length ts);
+      };
       storage = filled m ts;
     }
 

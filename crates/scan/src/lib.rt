@@ -16,7 +16,8 @@ pub struct Fed {
     pub scan: bed::Scan,
 }
 
-// The offered call: a fresh scan of a kind and an order. Refused, 1, it changes no slot; accepted it sets all of them to 0.
+// The offered call: a fresh scan of a kind and an order. Refused, 1, it changes no slot; accepted it sets all of them
+// to 0.
 pub fn fresh_scan(kind: bed::Kind, order: u32, slots: &mut [u32]) -> Fresh
     ensures { λ r. ⌜ Gives r (now (slots .exit)) (freshOf kind order (now (slots .entry))) ⌝ }
 {
@@ -33,8 +34,8 @@ pub fn fresh_scan(kind: bed::Kind, order: u32, slots: &mut [u32]) -> Fresh
     }
 }
 
-// The offered call: feeds accounts to a scan. Refused by an opening check it changes nothing; past them it takes the accounts up to the first
-// that is refused, 23, 24 or 25, and leaves the list of what it took, with the other slots 0.
+// The offered call: feeds accounts to a scan. Refused by an opening check it changes nothing; past them it takes the
+// accounts up to the first that is refused, 23, 24 or 25, and leaves the list of what it took, with the other slots 0.
 pub fn feed(scan: bed::Scan, slots: &mut [u32], accounts: &[u8]) -> Fed
     ensures { λ r. ⌜ Gives r (now (slots .exit)) (feedOf scan (now (slots .entry)) (now (accounts .entry))) ⌝ }
 {

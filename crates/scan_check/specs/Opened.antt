@@ -1,4 +1,5 @@
--- What a scan record and its slots have that pass the opening checks, which the contracts of what comes behind them cite. Definitions only.
+-- What a scan record and its slots have that pass the opening checks, which the contracts of what comes behind them
+-- cite. Definitions only.
 --     Opened c slots   the list is valid and fits, the pixels scanned are in range, and what is not scanned is nobody's
 use mathlib.Core.Path.{_≡_}
 use mathlib.Core.List.{List}
@@ -16,4 +17,5 @@ pub record Opened (c : Scan) (slots : List ℕ) : Type 0 where
   pub count : c .tiles ≤ length slots
   pub valid : Valid (c .order) (tilesIn (c .tiles) slots)
   pub scanned : c .pixels ≤ 4 ^ c .order
-  pub blank : (z : ℕ) → z < 4 ^ c .order → c .pixels ≤ placeOf (c .kind) (c .order) z → accountAt (tilesIn (c .tiles) slots) z ≡ 0
+  pub blank : (z : ℕ) → z < 4 ^ c .order → c .pixels ≤ placeOf (c .kind) (c .order) z →
+      accountAt (tilesIn (c .tiles) slots) z ≡ 0

@@ -1,5 +1,5 @@
--- The checks that a call on a scan begins with (document 01, "Refusals by the place of the check"; a feed's opening checks).
--- Definitions only.
+-- The checks that a call on a scan begins with (document 01, "Refusals by the place of the check"; a feed's opening
+-- checks). Definitions only.
 --     unscannedIn k n s t     the tile t covers a pixel that is not scanned once s pixels are
 --     coversUnscanned c ts    a tile of ts covers a pixel that the record c has not scanned
 --     opening c slots         1, 2 and 11 to 16 of the list, then 21 and 22 of the record

@@ -1,10 +1,15 @@
 -- One account of a feed and all of them, on a list with a gap: what the contracts of this crate cite. Definitions only.
---     AtPlace k n s p             p is the pixel with s places before its own in the scan of kind k and order n, with its levels
---     Trails k s i b p            in Morton order no word lies behind the gap, and the last tile ahead of it starts ahead of the pixel p
+--     AtPlace k n s p             p is the pixel with s places before its own in the scan of kind k and order n, with
+--                                 its levels
+--     Trails k s i b p            in Morton order no word lies behind the gap, and the last tile ahead of it starts
+--                                 ahead of the pixel p
 --     Holds k n s f ts            ts is the list of this bed, and what is not scanned is nobody's
---     SteppedOn m b a r ts us     r is what the checks say of a on the bed b; if they accept it, us is the list of the bed with it, else ts again
---     Stepped k n p a s t i b r   from the slots s to t the account a went to the place with p before it, or was refused; the gap trails on
---     FedTo c e t r               the answer r and the list with a gap in the slots t are what the plain bed's feed e gives
+--     SteppedOn m b a r ts us     r is what the checks say of a on the bed b; if they accept it, us is the list of the
+--                                 bed with it, else ts again
+--     Stepped k n p a s t i b r   from the slots s to t the account a went to the place with p before it, or was
+--                                 refused; the gap trails on
+--     FedTo c e t r               the answer r and the list with a gap in the slots t are what the plain bed's feed e
+--                                 gives
 use mathlib.Core.Path.{_≡_}
 use mathlib.Core.List.{List}
 use Prim.Native.Nat.{ℕ, _+_, _^_, _≤_, _<_}
@@ -47,7 +52,8 @@ pub record SteppedOn (m : ℕ) (b : bed.Bed) (a r : ℕ) (ts us : List Tile) : T
 pub record Stepped (k : Kind) (n p a : ℕ) (s t : List ℕ) (i b : ℕ) (r : AfterPixel) : Type 0 where
   pub fits : Fits t (r .front) (r .back)
   pub trails : Trails k t (r .front) (r .back) (p + 1)
-  pub on : (f : ℕ → ℕ) → Holds k n p f (tiles (held s i b)) → SteppedOn (length s) (bed.bedOf k n p f) a (r .number) (tiles (held s i b)) (tiles (held t (r .front) (r .back)))
+  pub on : (f : ℕ → ℕ) → Holds k n p f (tiles (held s i b)) →
+      SteppedOn (length s) (bed.bedOf k n p f) a (r .number) (tiles (held s i b)) (tiles (held t (r .front) (r .back)))
 
 pub record FedTo (c : Scan) (e : bed.BedFed) (t : List ℕ) (r : AfterPixels) : Type 0 where
   pub number : r .number ≡ e .number

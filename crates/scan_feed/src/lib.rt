@@ -12,7 +12,8 @@ ghost use Rattle.scan_feed.specs.Shown.{shownBed};
 ghost use Rattle.scan_check.specs.Opened.{Opened};
 ghost use Rattle.scan_feed.specs.Feeding.{AtPlace, Trails, Stepped, FedTo};
 
-// A pixel's Morton number, and its levels: the size of the largest block that ends with it, which is as often as it can merge.
+// A pixel's Morton number, and its levels: the size of the largest block that ends with it, which is as often as it can
+// merge.
 pub struct Place {
     pub z: u32,
     pub levels: u32,
@@ -34,8 +35,8 @@ pub struct AfterPixels {
     pub back: usize,
 }
 
-// The levels of the pixel at a column and a row: the smaller of i and j, where 2^i and 2^j are the largest powers of two that divide column + 1
-// and row + 1.
+// The levels of the pixel at a column and a row: the smaller of i and j, where 2^i and 2^j are the largest powers of
+// two that divide column + 1 and row + 1.
 fn row_levels(column: u32, row: u32) -> u32
     requires { ⌜ (column < 2 ^ highestOrder) × (row < 2 ^ highestOrder) ⌝ }
     ensures { λ r. ⌜ Levels (morton sideBits column row + 1) r ⌝ }
@@ -74,7 +75,8 @@ fn next_place(kind: bed::Kind, order: u32, pixels: u32) -> Place
     }
 }
 
-// Puts somebody's account on the next place of a scan. By rows the place lies among the tiles; in Morton order it lies behind them all.
+// Puts somebody's account on the next place of a scan. By rows the place lies among the tiles; in Morton order it lies
+// behind them all.
 fn put_next(
     slots: &mut [u32],
     front: usize,
@@ -87,7 +89,8 @@ fn put_next(
     requires { ⌜ Fits (now slots) front back × Trails kind (now slots) front back pixels ⌝ }
     requires { ⌜ (order ≤ highestOrder) × (pixels < 4 ^ order) ⌝ }
     requires { ⌜ (0 < account) × (account ≤ highestAccount) ⌝ }
-    ensures { λ r. ⌜ Placed (now (slots .entry)) (now (slots .exit)) front back (pixelAt kind order pixels) account r ⌝ }
+    ensures { λ r. ⌜ Placed (now (slots .entry)) (now (slots .exit)) front back (pixelAt kind order pixels) account
+        r ⌝ }
     ensures { λ r. ⌜ Trails kind (now (slots .exit)) (r .front) (r .back) (pixels + 1) ⌝ }
 {
     let place = next_place(kind, order, pixels);
@@ -141,7 +144,8 @@ fn feed_pixel(
 // Feeds the accounts in turn to a list that passed the opening checks, up to the first that is refused.
 pub fn feed_all(scan: bed::Scan, slots: &mut [u32], accounts: &[u8]) -> AfterPixels
     requires { ⌜ Opened scan (now slots) ⌝ }
-    ensures { λ r. ⌜ FedTo scan (feedPixels (length (now (slots .entry))) 0 (shownBed scan (now (slots .entry))) (now (accounts .entry))) (now (slots .exit)) r ⌝ }
+    ensures { λ r. ⌜ FedTo scan (feedPixels (length (now (slots .entry))) 0 (shownBed scan (now (slots .entry)))
+        (now (accounts .entry))) (now (slots .exit)) r ⌝ }
 {
     let kind = scan.kind;
     let order = scan.order;

@@ -1,14 +1,18 @@
--- A tile list that lies in lent slots in two parts, with a gap between them: what the contracts of this crate cite. Definitions only.
+-- A tile list that lies in lent slots in two parts, with a gap between them: what the contracts of this crate cite.
+-- Definitions only.
 --     held s i b             the words of the list in the slots s: those before i and those from b on
 --     Fits s i b             the two parts lie apart in s
---     Awaits n f z ts        ts is the linear quadtree of the raster f of order n, and the pixel z can be put into it: of each block that has z,
+--     Awaits n f z ts        ts is the linear quadtree of the raster f of order n, and the pixel z can be put into it:
+--                            of each block that has z,
 --                            the last pixel is nobody's
 --     dotted f z a           the raster f with the account a on the pixel z
---     PlacedOn n m g ts us r r says whether m slots are too few for the linear quadtree of g; if they are not, us is this list, else ts again
+--     PlacedOn n m g ts us r r says whether m slots are too few for the linear quadtree of g; if they are not, us is
+-- this list, else ts again
 --     Placed s t i b z a r   from the slots s to t the pixel z got the account a, or was refused for want of a slot
 -- and in between:
 --     Pushed s t i b x r     what the tile x leaves of the first i words, where the other part starts at b
---     Low s i z, High s b z  the last tile of the first part starts ahead of z; the first tile of the other part does not
+--     Low s i z, High s b z  the last tile of the first part starts ahead of z; the first tile of the other part does
+--                            not
 --     Moved s t i b z g      the gap moved to the pixel z, and the same words are held
 use mathlib.Core.Path.{_≡_}
 use mathlib.Core.Bool.{Bool, true, false}
@@ -46,7 +50,8 @@ pub record PlacedOn (n m : ℕ) (g : ℕ → ℕ) (ts us : List Tile) (r : Bool)
 
 pub record Placed (s t : List ℕ) (i b z a : ℕ) (r : Outcome) : Type 0 where
   pub fits : Fits t (r .front) (r .back)
-  pub on : (n : ℕ) (f : ℕ → ℕ) → Awaits n f z (tiles (held s i b)) → PlacedOn n (length s) (dotted f z a) (tiles (held s i b)) (tiles (held t (r .front) (r .back))) (r .full)
+  pub on : (n : ℕ) (f : ℕ → ℕ) → Awaits n f z (tiles (held s i b)) →
+      PlacedOn n (length s) (dotted f z a) (tiles (held s i b)) (tiles (held t (r .front) (r .back))) (r .full)
 
 abbrev pub Low : List ℕ → ℕ → ℕ → Type 0
 Low s i z = 0 < i → tileOf (getD s (i - 1) 0) .corner < z

@@ -1,5 +1,5 @@
-// A tile list in lent slots with a gap: its words before `front` and those from `back` on. A pixel is put where the gap lies, and merges with
-// its siblings ahead of it before it needs a slot.
+// A tile list in lent slots with a gap: its words before `front` and those from `back` on. A pixel is put where the gap
+// lies, and merges with its siblings ahead of it before it needs a slot.
 ghost use mathlib.Core.Path.{_≡_};
 ghost use mathlib.Core.List.{_++_};
 ghost use Prim.Native.Nat.{_+_, _-_, _^_, _<_, _≤_};
@@ -56,8 +56,8 @@ fn push(
     }
 }
 
-// Moves the gap back to the pixel z, which the last tile of the front part does not start ahead of: the words from its place on go to the back
-// part in one piece.
+// Moves the gap back to the pixel z, which the last tile of the front part does not start ahead of: the words from its
+// place on go to the back part in one piece.
 fn retreat(slots: &mut [u32], front: usize, back: usize, z: u32) -> Gap
     requires { ⌜ Fits (now slots) front back ⌝ }
     requires { ⌜ (0 < front) × (z ≤ tileOf (getD (now slots) (front - 1) 0) .corner) ⌝ }
@@ -72,8 +72,8 @@ fn retreat(slots: &mut [u32], front: usize, back: usize, z: u32) -> Gap
     }
 }
 
-// Moves the gap on to the pixel z, which the first tile of the back part starts ahead of: the words up to its place, which is mostly near, go to
-// the front part in one piece.
+// Moves the gap on to the pixel z, which the first tile of the back part starts ahead of: the words up to its place,
+// which is mostly near, go to the front part in one piece.
 fn advance(slots: &mut [u32], front: usize, back: usize, z: u32) -> Gap
     requires { ⌜ Fits (now slots) front back ⌝ }
     requires { ⌜ (back < length (now slots)) × (tileOf (getD (now slots) back 0) .corner < z) ⌝ }
@@ -106,8 +106,8 @@ fn seek(slots: &mut [u32], front: usize, back: usize, z: u32) -> Gap
     Gap { front, back }
 }
 
-// Puts somebody's account on the pixel z of the list, if the list that this makes has a slot for each of its tiles. `levels` is the size of the
-// largest block that ends with z.
+// Puts somebody's account on the pixel z of the list, if the list that this makes has a slot for each of its tiles.
+// `levels` is the size of the largest block that ends with z.
 pub fn put(
     slots: &mut [u32],
     front: usize,

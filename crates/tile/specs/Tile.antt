@@ -1,4 +1,5 @@
--- Tiles and tile words (document 01, "What the product holds"). Definitions only; the bit layout and the limits stand here and nowhere else.
+-- Tiles and tile words (document 01, "What the product holds"). Definitions only; the bit layout and the limits stand
+-- here and nowhere else.
 --     Tile, tile c k a            a tile: corner c, size k, account a
 --     stop t                      the first Morton number past the tile t
 --     highestOrder                orders and sizes go from 0 to it
@@ -35,6 +36,7 @@ wordLimit = 2 ^ 30
 unfoldable pub wordOf : Tile → ℕ
 wordOf t = t .corner * 2 ^ 10 + t .size * 2 ^ 6 + t .account
 
--- the corner is what stands above the size, so that each word is the word of its tile; below `wordLimit` it is bits 29 to 10
+-- the corner is what stands above the size, so that each word is the word of its tile; below `wordLimit` it is bits 29
+-- to 10
 unfoldable pub tileOf : ℕ → Tile
 tileOf w = record { corner = w / 2 ^ 10; size = w / 2 ^ 6 % 2 ^ 4; account = w % 2 ^ 6 }

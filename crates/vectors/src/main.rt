@@ -17,7 +17,8 @@ fn wide(x: u8) -> usize {
     x as usize
 }
 
-// "M's file has 32 bytes; roster totals 4 for account 5 and 6 for account 9." All four bytes of a total, high byte first.
+// "M's file has 32 bytes; roster totals 4 for account 5 and 6 for account 9." All four bytes of a total, high byte
+// first.
 fn file_of(scan: Scan, slots: &[u32]) {
     let mut file = [0u8; 64];
     let written = mapfile_write::write(scan.order, scan.tiles, slots, &mut file);

@@ -1,5 +1,5 @@
--- The starred lines of document 01's "Worked beds", as one table of the definitions. Each field is a line, in the paper's order; all are
--- computed by the checker (proofs/Computed.antt).
+-- The starred lines of document 01's "Worked beds", as one table of the definitions. Each field is a line, in the
+-- paper's order; all are computed by the checker (proofs/Computed.antt).
 use mathlib.Core.Path.{_≡_}
 use mathlib.Core.List.{List, [], _∷_, map}
 use Prim.Native.Nat.{ℕ}
@@ -40,7 +40,15 @@ abbrev pub rowScan : ℕ → ℕ → List ℕ → After Fed
 rowScan n m bytes = let r = freshOf Rows n (replicate m 1) in feedOf (r .answer .scan) (r .storage) bytes
 
 abbrev pub fed : ℕ → ℕ → ℕ → ℕ → ℕ → List Tile → After Fed
-fed number taken n s m ts = record { answer = record { number = number; taken = taken; scan = scanOf Rows n s (length ts) }; storage = filled m ts }
+fed number taken n s m ts = record {
+  answer = record {
+    number = number;
+    taken = taken;
+    scan =
+        scanOf Rows n s (length ts);
+  };
+  storage = filled m ts;
+}
 
 pub record Starred : Type 0 where
   -- M's rows, and its tiles (corner, size, account): (0,1,5) (7,0,9) (8,0,9) (12,1,9)

@@ -1,7 +1,7 @@
 -- A refusal leaves before any store; an accepted file has room for what is read of it.
 use borrow.Author.Needs.{needs}
 use Rattle.mapfile_read.proofs.Examining.{read-refused, read-room, read-stored}
-use Rattle.mapfile_read.proofs.Stores.{store-room}
+use Rattle.mapfile_read.proofs.ReadStores.{store-room}
 use Rattle.mapfile_read.proofs.read.Statement.{statement}
 use Rattle.mapfile_read.proofs.read.Tie as tie
 

@@ -1,7 +1,7 @@
 -- The words in front are the file's, those behind are untouched.
 use Rattle.mapfile_bytes.specs.Items.{wordAt, wordsAt}
 use Rattle.mapfile_bytes.proofs.ItemsLaws.{wordsAt-length, wordsAt-at}
-use Rattle.mapfile_read.proofs.Stores.{store-on, store-end}
+use Rattle.mapfile_read.proofs.ReadStores.{store-on, store-end}
 use mathlib.Core.Path.{_≡_, _∙_, refl, ap, sym}
 use Prim.Native.Nat.{_+_, _-_, _*_, _≤_}
 use mathlib.Core.List.{_++_}

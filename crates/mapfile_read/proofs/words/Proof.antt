@@ -1,5 +1,5 @@
 -- The loop keeps `Going`: what is ahead is known, and the words from i on decide.
-use Rattle.mapfile_read.proofs.InTurn.{Going, going-start, going-end, going-short, going-on, going-stop}
+use Rattle.mapfile_read.proofs.WordsInTurn.{Going, going-start, going-end, going-short, going-on, going-stop}
 use Prim.Native.Nat.{_-_, _≤_}
 use native.Mathlib.Omega.{arith}
 use lib.ListN.{length}

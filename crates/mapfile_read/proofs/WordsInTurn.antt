@@ -19,7 +19,7 @@ use Rattle.tile.specs.Tile.{Tile, tileOf}
 use Rattle.list_check.specs.declared.Ahead.{Ahead}
 use Rattle.list_check.specs.declared.Judged.{Judged}
 use Rattle.list_check.specs.ListCheck.{wordCheck}
-use Rattle.list_check.specs.Pass.{Knows, Stepped}
+use Rattle.list_check.specs.Pass.{Knows, Judges}
 use Rattle.list_check.proofs.OneWord.{wordCheck-rest}
 use Rattle.mapfile_bytes.specs.Items.{wordAt}
 use Rattle.mapfile_read.specs.Reader.{tilesCheck}
@@ -46,7 +46,7 @@ module _ (n t : ℕ) (bs : List ℕ) where
       pub going-short : (p + 4 ≤ length bs → ⊥) → fileCutShort ≡ tilesCheck n t [] bs 5
       going-short l = sym (turn ∙ must-off fileCutShort _ (test-leb (p + 4) (length bs)) l)
 
-      module _ (l : p + 4 ≤ length bs) {r : Judged} (w : ℕ) (e : w ≡ wordAt bs p) (s : Stepped n (g .seen) w r) where
+      module _ (l : p + 4 ≤ length bs) {r : Judged} (w : ℕ) (e : w ≡ wordAt bs p) (s : Judges n (g .seen) w r) where
         word : tilesCheck n t [] bs 5 ≡ orElse (wordCheck n (g .seen) w accepted) (tilesCheck n (t - (i + 1)) (tileOf w ∷ g .seen) bs (p + 4))
         word = turn ∙ must-on fileCutShort _ (test-leb (p + 4) (length bs)) l ∙ rw e (wordCheck-rest n (g .seen) (wordAt bs p) _)
 
