@@ -1,4 +1,4 @@
--- A test together with what it tests. Definitions only.
+-- Inner: a test together with what it tests. Definitions only.
 --     Test P b   b is true just if P holds
 use mathlib.Core.Bool.{Bool, true, false}
 

@@ -1,4 +1,8 @@
 -- Laws of the scan's places and of the plain bed.
+--     BedComputed   the worked lines of the plain bed, computed by the checker
+--     LastPixel     the last pixel of a block of Morton numbers is the south-eastern pixel of its square
+--     PlaceLaws     laws of the places of a scan, for both kinds and every order
+--     BedLaws       laws of the plain bed
 pub mod BedComputed
 pub mod LastPixel
 pub mod PlaceLaws

@@ -1,5 +1,5 @@
 -- The comparison of the tiles on both sides of a tile with its siblings.
---     Rooms c k side     the numbers of the two runs
+--     Rooms c k area     the numbers of the two runs
 --     rooms              they fit
 --     Sided ..           what is known of the tile whose siblings are looked for
 --     beside-few, -end, -ahead, -behind    what each turn of the comparison tells
@@ -17,39 +17,39 @@ use Rattle.quadtree.specs.Tiling.{tileRun}
 use Rattle.claim_split.proofs.Place.{place}
 use Rattle.claim_merge.specs.Standing.{Block, Beside}
 
-pub record Rooms (c k side : ℕ) : Type 0 where
-  pub four : c / side % 4 ≤ 3
-  pub less : c / side % 4 * side ≤ c
-  pub fits : c + side < 2 ^ 32
-  pub ahead : c - c / side % 4 * side + c / side % 4 * 4 ^ k < 2 ^ 32
-  pub behind : c + side + (3 - c / side % 4) * 4 ^ k < 2 ^ 32
+pub record Rooms (c k area : ℕ) : Type 0 where
+  pub four : c / area % 4 ≤ 3
+  pub less : c / area % 4 * area ≤ c
+  pub fits : c + area < 2 ^ 32
+  pub ahead : c - c / area % 4 * area + c / area % 4 * 4 ^ k < 2 ^ 32
+  pub behind : c + area + (3 - c / area % 4) * 4 ^ k < 2 ^ 32
 
-pub rooms : (c k side : ℕ) → side ≡ 4 ^ k → Block c k → Rooms c k side
-rooms c k side es b =
+pub rooms : (c k area : ℕ) → area ≡ 4 ^ k → Block c k → Rooms c k area
+rooms c k area es b =
     let p = place k c (b .aligned) in
     let l : 4 ^ k ≤ 4 ^ highestOrder = area-mono (b .size) in
     let m : (3 - c / 4 ^ k % 4) * 4 ^ k ≤ 3 * 4 ^ k = mul-le-mul-right (4 ^ k) (omega arith) in
     rw es (record { four = p .four; less = omega (arith, p .from); fits = omega (arith, b .room); ahead = omega (arith, p .from, b .room); behind = omega (arith, b .room) })
 
-pub record Sided (s : List ℕ) (lo hi c k a side : ℕ) : Type 0 where
-  pub is : side ≡ 4 ^ k
+pub record Sided (s : List ℕ) (lo hi c k a area : ℕ) : Type 0 where
+  pub is : area ≡ 4 ^ k
 
 -- the run of m siblings from the corner x on stands at an index
 abbrev pub Runs : List ℕ → ℕ → ℕ → ℕ → ℕ → ℕ → Type 0
 Runs s k a at m x = take m (drop at (map tileOf s)) ≡ tileRun k a m x
 
-module _ {s : List ℕ} {lo hi c k a side : ℕ} (b : Sided s lo hi c k a side) where
-  pub beside-few : lo < c / side % 4 → Test (Beside (map tileOf s) lo hi c k a) false
+module _ {s : List ℕ} {lo hi c k a area : ℕ} (b : Sided s lo hi c k a area) where
+  pub beside-few : lo < c / area % 4 → Test (Beside (map tileOf s) lo hi c k a) false
   beside-few h = fails (λ j. omega (arith, j .left, ap (λ (x : ℕ). c / x % 4) (b .is)))
 
-  pub beside-end : length s - hi < 3 - c / side % 4 → Test (Beside (map tileOf s) lo hi c k a) false
+  pub beside-end : length s - hi < 3 - c / area % 4 → Test (Beside (map tileOf s) lo hi c k a) false
   beside-end h = fails (λ j. omega (arith, j .right, length-map s tileOf, ap (λ (x : ℕ). c / x % 4) (b .is)))
 
-  pub beside-ahead : {r : Bool} → Test (Runs s k a (lo - c / side % 4) (c / side % 4) (c - c / side % 4 * side)) r → r ≡ false → Test (Beside (map tileOf s) lo hi c k a) false
+  pub beside-ahead : {r : Bool} → Test (Runs s k a (lo - c / area % 4) (c / area % 4) (c - c / area % 4 * area)) r → r ≡ false → Test (Beside (map tileOf s) lo hi c k a) false
   beside-ahead t e = fails (λ j. told-false (rw (b .is) at t) e (j .ahead))
 
-  pub beside-behind : c / side % 4 ≤ lo → 3 - c / side % 4 ≤ length s - hi → {q r : Bool} → Test (Runs s k a (lo - c / side % 4) (c / side % 4) (c - c / side % 4 * side)) q → q ≡ true →
-      Test (Runs s k a hi (3 - c / side % 4) (c + side)) r → Test (Beside (map tileOf s) lo hi c k a) r
+  pub beside-behind : c / area % 4 ≤ lo → 3 - c / area % 4 ≤ length s - hi → {q r : Bool} → Test (Runs s k a (lo - c / area % 4) (c / area % 4) (c - c / area % 4 * area)) q → q ≡ true →
+      Test (Runs s k a hi (3 - c / area % 4) (c + area)) r → Test (Beside (map tileOf s) lo hi c k a) r
   beside-behind l h t e u = test-map
       (λ x. record { left = rw (b .is) at l; right = rw (length-map s tileOf) (rw (b .is) at h); ahead = told-true (rw (b .is) at t) e; behind = rw (b .is) at x })
       (λ j. rw (b .is) (j .behind))

@@ -1,4 +1,4 @@
--- A tile that stands in place of others in a list, and its siblings there. Definitions only.
+-- Inner: a tile that stands in place of others in a list, and its siblings there. Definitions only.
 --     Block c k                     the block of size k at the corner c is a quadrant of the largest bed
 --     quadrantOf c k, parentOf c k     which quadrant of its parent the block is, and the parent's corner
 --     Beside ts lo hi c k a         the three siblings of the tile of size k and account a at c stand ahead of lo and

@@ -22,8 +22,8 @@ fn beside(list: &[u32], lo: usize, hi: usize, corner: u32, size: u32, account: u
     requires { ⌜ (lo ≤ length (now list)) × (hi ≤ length (now list)) × Block corner size ⌝ }
     ensures { λ r. ⌜ Test (Beside (map tileOf (now (list .entry))) lo hi corner size account) r ⌝ }
 {
-    let side = tile::area(size);
-    let place = (corner / side) % 4;
+    let area = tile::area(size);
+    let place = (corner / area) % 4;
     let before = place as usize;
     let after = 3 - before;
     if lo < before {
@@ -36,13 +36,13 @@ fn beside(list: &[u32], lo: usize, hi: usize, corner: u32, size: u32, account: u
         list,
         lo - before,
         before,
-        corner - place * side,
+        corner - place * area,
         size,
         account,
     ) {
         return false;
     }
-    list_run::is_run(list, hi, after, corner + side, size, account)
+    list_run::is_run(list, hi, after, corner + area, size, account)
 }
 
 // Merges a tile in place of those from lo up to hi with its siblings on both sides, over as many levels as they are all
@@ -66,12 +66,12 @@ pub fn merge(
     let mut c = corner;
     let mut k = size;
     while beside(list, from, to, c, k, account) {
-        let side = tile::area(k);
-        let place = (c / side) % 4;
+        let area = tile::area(k);
+        let place = (c / area) % 4;
         let before = place as usize;
         from -= before;
         to += 3 - before;
-        c -= place * side;
+        c -= place * area;
         k += 1;
     }
     Grown {

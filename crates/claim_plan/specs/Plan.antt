@@ -1,4 +1,5 @@
--- What a claim changes in a valid list, found without a store: the facts that the functions hand on. Definitions only.
+-- Inner: what a claim changes in a valid list, found without a store: the facts that the functions hand on. Definitions
+-- only.
 --     Claimable n ts c k a          the checks that come before a claim have passed: ts is valid, the block a quadrant,
 --                                   the account an account
 --     Covered s lo c k              the tile at lo is larger than the block and does not start behind its corner

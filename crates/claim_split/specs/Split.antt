@@ -1,5 +1,4 @@
--- A block of one account inside a block of another, which the contracts of claims' inner functions cite. Definitions
--- only.
+-- Inner: a block of one account inside a block of another. Definitions only.
 --     Split g k c a v s d   g has the account a on the block of size k at c, and v on the rest of the block of size s
 --                           at d around it
 --     pieces k c a v l d    the tiles of such a block, l levels above the inner one

@@ -49,18 +49,18 @@ both-runs t u w x r1 r2 left right i j ei ej h l eu ew =
     back : drop right w ≡ r2 ++ drop (right + j) t
     back = rw (ew, drop-at (take right u) (r2 ++ drop (right + j) u) right (length-take-le right u (omega (arith, lu))), far)
 
-pub record Turned (len left k c a v s d side : ℕ) : Type 0 where
-  pub four : (c - d) / side ≤ 3
-  pub some : 0 < side
+pub record Turned (len left k c a v s d area : ℕ) : Type 0 where
+  pub four : (c - d) / area ≤ 3
+  pub some : 0 < area
   pub small : s - 1 ≤ highestOrder
-  pub from : d + (c - d) / side * side ≤ c
+  pub from : d + (c - d) / area * area ≤ c
   pub corner : c < 4 ^ highestOrder
-  pub ahead : d + (c - d) / side * 4 ^ (s - 1) ≤ 4 ^ highestOrder
-  pub behind : d + (c - d) / side * side + side + (3 - (c - d) / side) * 4 ^ (s - 1) ≤ 4 ^ highestOrder
-  pub drawn : Drawn len (left + (c - d) / side) k c a v (s - 1) (d + (c - d) / side * side)
+  pub ahead : d + (c - d) / area * 4 ^ (s - 1) ≤ 4 ^ highestOrder
+  pub behind : d + (c - d) / area * area + area + (3 - (c - d) / area) * 4 ^ (s - 1) ≤ 4 ^ highestOrder
+  pub drawn : Drawn len (left + (c - d) / area) k c a v (s - 1) (d + (c - d) / area * area)
 
-turned : (len left k c a v s d side : ℕ) → Drawn len left k c a v s d → k < s → side ≡ 4 ^ (s - 1) → Turned len left k c a v s d side
-turned len left k c a v s d side w h es =
+turned : (len left k c a v s d area : ℕ) → Drawn len left k c a v s d → k < s → area ≡ 4 ^ (s - 1) → Turned len left k c a v s d area
+turned len left k c a v s d area w h es =
     let e : suc (s - 1) ≡ s = omega arith in
     let q : 4 ^ suc (s - 1) ≡ 4 ^ s = ap (λ (x : ℕ). 4 ^ x) e in
     let t = holder c (s - 1) d (w .from) (omega (arith, w .upto)) in
@@ -87,10 +87,10 @@ turned len left k c a v s d side w h es =
       };
     })
 
-pieces-step : (k c a v s d side : ℕ) → k < s → side ≡ 4 ^ (s - 1) → map wordOf (pieces k c a v (s - k) d) ≡
-    map wordOf (tileRun (s - 1) v ((c - d) / side) d) ++ (map wordOf (pieces k c a v (s - 1 - k) (d + (c - d) / side * side)) ++ map wordOf (tileRun (s - 1) v (3 - (c - d) / side) (d + (c - d) / side * side + side)))
+pieces-step : (k c a v s d area : ℕ) → k < s → area ≡ 4 ^ (s - 1) → map wordOf (pieces k c a v (s - k) d) ≡
+    map wordOf (tileRun (s - 1) v ((c - d) / area) d) ++ (map wordOf (pieces k c a v (s - 1 - k) (d + (c - d) / area * area)) ++ map wordOf (tileRun (s - 1) v (3 - (c - d) / area) (d + (c - d) / area * area + area)))
 unfolding pieces
-pieces-step k c a v s d side h es =
+pieces-step k c a v s d area h es =
     let p : s - k ≡ suc (s - 1 - k) = omega arith in
     let q : k + (s - 1 - k) ≡ s - 1 = omega arith in
     rw (es, p, q) (simp map-append)
@@ -101,24 +101,24 @@ pub record Putting (b t : List ℕ) (left right k c a v s d : ℕ) : Type 0 wher
   pub end : right ≡ left + (3 * (s - k) + inner a)
   pub rest : b ≡ take left t ++ (map wordOf (pieces k c a v (s - k) d) ++ drop right t)
 
-module _ {b t : List ℕ} {left right k c a v s d side : ℕ} (m : Putting b t left right k c a v s d) (h : k < s) (es : side ≡ 4 ^ (s - 1)) where
-  pub level : Turned (length t) left k c a v s d side
-  level = turned (length t) left k c a v s d side (m .drawn) h es
+module _ {b t : List ℕ} {left right k c a v s d area : ℕ} (m : Putting b t left right k c a v s d) (h : k < s) (es : area ≡ 4 ^ (s - 1)) where
+  pub level : Turned (length t) left k c a v s d area
+  level = turned (length t) left k c a v s d area (m .drawn) h es
 
-  back : right - (3 - (c - d) / side) + (3 - (c - d) / side) ≡ right
+  back : right - (3 - (c - d) / area) + (3 - (c - d) / area) ≡ right
   back = omega (arith, level .four, m .end)
 
-  pub put-level : {u r : List ℕ} → u ≡ take left t ++ (map wordOf (tileRun (s - 1) v ((c - d) / side) d) ++ drop (left + (c - d) / side) t) →
-      r ≡ take (right - (3 - (c - d) / side)) u ++ (map wordOf (tileRun (s - 1) v (3 - (c - d) / side) (d + (c - d) / side * side + side)) ++ drop (right - (3 - (c - d) / side) + (3 - (c - d) / side)) u) →
-      length r ≡ length t → Putting b r (left + (c - d) / side) (right - (3 - (c - d) / side)) k c a v (s - 1) (d + (c - d) / side * side)
-  put-level {u} {r} eu ew lr = record { drawn = rw lr (level .drawn); end = omega (arith, level .four, m .end); rest = m .rest ∙ ap (λ (l : List ℕ). take left t ++ (l ++ drop right t)) (pieces-step k c a v s d side h es) ∙ sym (rw back at both) }
+  pub put-level : {u r : List ℕ} → u ≡ take left t ++ (map wordOf (tileRun (s - 1) v ((c - d) / area) d) ++ drop (left + (c - d) / area) t) →
+      r ≡ take (right - (3 - (c - d) / area)) u ++ (map wordOf (tileRun (s - 1) v (3 - (c - d) / area) (d + (c - d) / area * area + area)) ++ drop (right - (3 - (c - d) / area) + (3 - (c - d) / area)) u) →
+      length r ≡ length t → Putting b r (left + (c - d) / area) (right - (3 - (c - d) / area)) k c a v (s - 1) (d + (c - d) / area * area)
+  put-level {u} {r} eu ew lr = record { drawn = rw lr (level .drawn); end = omega (arith, level .four, m .end); rest = m .rest ∙ ap (λ (l : List ℕ). take left t ++ (l ++ drop right t)) (pieces-step k c a v s d area h es) ∙ sym (rw back at both) }
     where
       run-length : (i x : ℕ) → length (map wordOf (tileRun (s - 1) v i x)) ≡ i
       run-length i x = length-map (tileRun (s - 1) v i x) wordOf ∙ tileRun-length (s - 1) v i x
 
-      both : take (left + (c - d) / side) r ++ (map wordOf (pieces k c a v (s - 1 - k) (d + (c - d) / side * side)) ++ drop (right - (3 - (c - d) / side)) r) ≡
-          take left t ++ ((map wordOf (tileRun (s - 1) v ((c - d) / side) d) ++ (map wordOf (pieces k c a v (s - 1 - k) (d + (c - d) / side * side)) ++ map wordOf (tileRun (s - 1) v (3 - (c - d) / side) (d + (c - d) / side * side + side)))) ++ drop (right - (3 - (c - d) / side) + (3 - (c - d) / side)) t)
-      both = both-runs t u r (map wordOf (pieces k c a v (s - 1 - k) (d + (c - d) / side * side))) (map wordOf (tileRun (s - 1) v ((c - d) / side) d)) (map wordOf (tileRun (s - 1) v (3 - (c - d) / side) (d + (c - d) / side * side + side))) left (right - (3 - (c - d) / side)) ((c - d) / side) (3 - (c - d) / side) (run-length _ _) (run-length _ _) (omega (arith, level .four, m .end)) (omega (arith, back, m .end, m .drawn .fits)) eu ew
+      both : take (left + (c - d) / area) r ++ (map wordOf (pieces k c a v (s - 1 - k) (d + (c - d) / area * area)) ++ drop (right - (3 - (c - d) / area)) r) ≡
+          take left t ++ ((map wordOf (tileRun (s - 1) v ((c - d) / area) d) ++ (map wordOf (pieces k c a v (s - 1 - k) (d + (c - d) / area * area)) ++ map wordOf (tileRun (s - 1) v (3 - (c - d) / area) (d + (c - d) / area * area + area)))) ++ drop (right - (3 - (c - d) / area) + (3 - (c - d) / area)) t)
+      both = both-runs t u r (map wordOf (pieces k c a v (s - 1 - k) (d + (c - d) / area * area))) (map wordOf (tileRun (s - 1) v ((c - d) / area) d)) (map wordOf (tileRun (s - 1) v (3 - (c - d) / area) (d + (c - d) / area * area + area))) left (right - (3 - (c - d) / area)) ((c - d) / area) (3 - (c - d) / area) (run-length _ _) (run-length _ _) (omega (arith, level .four, m .end)) (omega (arith, back, m .end, m .drawn .fits)) eu ew
 
 single-words : (k c a : ℕ) → 0 < a → map wordOf (single c k a) ≡ wordOf (tile c k a) ∷ []
 single-words k c a h = rw (single-some c k a h)

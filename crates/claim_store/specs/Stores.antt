@@ -1,4 +1,4 @@
--- What the stores of a claim are handed and leave. Definitions only.
+-- Inner: what the stores of a claim are handed and leave. Definitions only.
 --     Drawn length at k c a v s d     the numbers of a block of size s at d around a block of size k at c, whose tiles
 --                                     go to the slots from `at` on
 --     RoomMade s t lo hi count m        t is s with room for m words in place of those from lo up to hi, of count words

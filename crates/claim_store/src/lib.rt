@@ -42,14 +42,14 @@ pub fn write_pieces(slots: &mut [u32], change: claim_plan::Change, count: usize,
     let mut s = change.top;
     while size < s {
         s -= 1;
-        let side = tile::area(s);
-        let place = (corner - d) / side;
+        let area = tile::area(s);
+        let place = (corner - d) / area;
         let before = place as usize;
         let after = 3 - before;
         list_run::write_run(slots, left, before, d, s, change.owner);
-        d += place * side;
+        d += place * area;
         right -= after;
-        list_run::write_run(slots, right, after, d + side, s, change.owner);
+        list_run::write_run(slots, right, after, d + area, s, change.owner);
         left += before;
     }
     if account != 0 {

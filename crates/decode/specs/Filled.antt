@@ -1,5 +1,5 @@
--- What the parts of decoding change of the bytes of a raster: ys is xs with the account a on a part of it. Definitions
--- only.
+-- Inner: what the parts of decoding change of the bytes of a raster: ys is xs with the account a on a part of it.
+-- Definitions only.
 --     RunFilled xs from to a ys                             on the bytes from `from` up to `to`
 --     RectangleFilled width xs column row columns rows a ys  on a rectangle of a raster whose rows have `width` bytes
 --     TileFilled n t xs ys                                  on the tile t of a raster of order n, by rows, with the

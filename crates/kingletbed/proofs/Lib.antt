@@ -1,2 +1,3 @@
 -- Laws of the exports.
+--     ExportLaws   the exports' answers, from those of the calls
 pub mod ExportLaws

@@ -1,4 +1,4 @@
--- What the test of row 16 tests.
+-- What the test of check 16 tests.
 --     Last seen t   t is the last of four siblings, whose others are the last three tiles seen
 --     test-last     `lastOfFour` is its test
 --     test-first    the test of the place of the first of four siblings

@@ -1,9 +1,9 @@
--- One word of the pass: what its rows show, and what a step may say of it.
---     sound-passed         the tile of a word that breaks none of rows 11 to 15 lies in the bed behind the tile ahead; sound-passes, the converse
+-- One word of the pass: what its checks show, and what a step may say of it.
+--     sound-passed         the tile of a word that breaks none of checks 11 to 15 lies in the bed behind the tile ahead; sound-passes, the converse
 --     stop-fits            such a tile ends below 2 ^ 32
 --     wordCheck-rest       a word's refusal, or else the rest's
---     step-bad             a word that breaks one of rows 11 to 15
---     step-last            a word that breaks row 16
+--     step-bad             a word that breaks one of checks 11 to 15
+--     step-last            a word that breaks check 16
 --     step-good            a word that breaks none
 use mathlib.Core.Path.{_≡_, refl, ap, ap₂, sym, _∙_}
 use mathlib.Core.Bool.{not}
@@ -20,9 +20,9 @@ use Rattle.quadtree.specs.Valid.{Sound}
 use Rattle.quadtree.proofs.Alignment.{area-mono, test-aligned}
 use Rattle.list_check.specs.declared.Ahead.{Ahead}
 use Rattle.list_check.specs.ListCheck.{lastOfFour, ended, soundCheck, wordCheck}
-use Rattle.list_check.specs.Pass.{nextRow, aheadOf, Knows, Judges}
+use Rattle.list_check.specs.Pass.{siblingsWith, aheadOf, Knows, Judges}
 use Rattle.list_check.proofs.LastOfFour.{test-last}
-use Rattle.list_check.proofs.SiblingRow.{nextRow-le, row-last, last-row}
+use Rattle.list_check.proofs.SiblingCount.{siblingsWith-le, siblings-last, last-siblings}
 
 module _ (n lo w : ℕ) where
   pub sound-passed : soundCheck n lo w ≡ accepted → Sound n lo (tileOf w)
@@ -74,9 +74,9 @@ module _ (n : ℕ) (seen : List Tile) (w : ℕ) (a : Ahead) (g : Knows a seen) (
   unfolding wordCheck
   step-bad z = record { refusal = sound-is ∙ sym (else-off _ _ (λ y. z (sound-is ∙ y))); ahead = λ y. absurd (z y) }
 
-  module _ (z : x ≡ accepted) (c k p m : ℕ) (ec : c ≡ tileOf w .corner) (ek : k ≡ tileOf w .size) (ep : p ≡ tileOf w .account) (em : m ≡ nextRow a (tile c k p)) where
-    row-is : m ≡ nextRow (aheadOf seen) (tileOf w)
-    row-is = em ∙ ap₂ nextRow (g .is) (λ i. record { corner = ec i; size = ek i; account = ep i })
+  module _ (z : x ≡ accepted) (c k p m : ℕ) (ec : c ≡ tileOf w .corner) (ek : k ≡ tileOf w .size) (ep : p ≡ tileOf w .account) (em : m ≡ siblingsWith a (tile c k p)) where
+    siblings-is : m ≡ siblingsWith (aheadOf seen) (tileOf w)
+    siblings-is = em ∙ ap₂ siblingsWith (g .is) (λ i. record { corner = ec i; size = ek i; account = ep i })
 
     left : wordCheck n seen w accepted ≡ must (not (lastOfFour seen (tileOf w))) siblingsUnmerged accepted
     unfolding wordCheck
@@ -84,15 +84,15 @@ module _ (n : ℕ) (seen : List Tile) (w : ℕ) (a : Ahead) (g : Knows a seen) (
 
     pub step-last : m ≡ 4 → Judges n seen w (record { refusal = siblingsUnmerged; ahead = a })
     step-last f = record {
-      refusal = sym (left ∙ must-off siblingsUnmerged accepted (test-not (test-last seen (tileOf w))) (λ q. q (row-last seen (tileOf w) (sym row-is ∙ f))));
+      refusal = sym (left ∙ must-off siblingsUnmerged accepted (test-not (test-last seen (tileOf w))) (λ q. q (siblings-last seen (tileOf w) (sym siblings-is ∙ f))));
       ahead = λ y. absurd (omega arith);
     }
 
-    pub step-good : (m ≡ 4 → ⊥) → (d : ℕ) → d ≡ 4 ^ k → Judges n seen w (record { refusal = accepted; ahead = record { stop = c + d; size = k; account = p; row = m } })
+    pub step-good : (m ≡ 4 → ⊥) → (d : ℕ) → d ≡ 4 ^ k → Judges n seen w (record { refusal = accepted; ahead = record { stop = c + d; size = k; account = p; siblings = m } })
     unfolding aheadOf
     step-good f d ed = record {
-      refusal = sym (left ∙ must-on siblingsUnmerged accepted (test-not (test-last seen (tileOf w))) (λ l. f (row-is ∙ last-row seen (tileOf w) l)));
-      ahead = λ y. record { few = omega (arith, nextRow-le a (tile c k p), g .few, em); is = λ i. record { stop = stop-is i; size = ek i; account = ep i; row = row-is i } };
+      refusal = sym (left ∙ must-on siblingsUnmerged accepted (test-not (test-last seen (tileOf w))) (λ l. f (siblings-is ∙ last-siblings seen (tileOf w) l)));
+      ahead = λ y. record { few = omega (arith, siblingsWith-le a (tile c k p), g .few, em); is = λ i. record { stop = stop-is i; size = ek i; account = ep i; siblings = siblings-is i } };
     }
       where
         stop-is : c + d ≡ tileOf w .corner + 4 ^ tileOf w .size

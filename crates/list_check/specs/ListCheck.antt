@@ -1,10 +1,10 @@
 -- List checking (document 01, "Refusals by the place of the check": 1, 2 and 11 to 16). Definitions only.
 --     follows t u               u starts where t ends, and has its size and account
 --     lastOfFour seen t         t is the last of four siblings, whose others are the three tiles ahead of it
---     soundCheck n lo w         the first of rows 11 to 15 that the word w breaks, where the tile ahead of it ends at
+--     soundCheck n lo w         the first of checks 11 to 15 that the word w breaks, where the tile ahead of it ends at
 --                               lo
---     wordCheck n seen w rest   the first row that the word w breaks behind the tiles `seen`, or what the rest says
---     wordsCheck n seen ws      the words in turn: the first bad word decides, and in it the first bad row
+--     wordCheck n seen w rest   the first check that the word w breaks behind the tiles `seen`, or what the rest says
+--     wordsCheck n seen ws      the words in turn: the first bad word decides, and in it the first check that it breaks
 --     listCheck n t slots       the offered call, of an order, a tile count and slots
 -- The tiles seen are given last first. All of them passed, so that siblings of t among them are the ones directly ahead
 -- of it.

@@ -1,7 +1,6 @@
--- What one pass over a list keeps of the tiles that it has seen, which the contracts of its steps cite. Definitions
--- only.
---     joins a t            t is the next sibling of the row that `a` tells of
---     nextRow a t          how many siblings in a row end with t, from the first of the four on; 0 where the row lacks
+-- Inner: what one pass over a list keeps of the tiles that it has seen. Definitions only.
+--     joins a t            t is the next of the siblings that `a` counts
+--     siblingsWith a t          how many siblings in a row end with t, from the first of the four on; 0 where the row lacks
 --                          its first
 --     aheadOf seen         what the pass keeps of the tiles seen, which are given last first
 --     Knows a seen         `a` is that, and the tiles seen do not end with four siblings
@@ -22,17 +21,17 @@ use Rattle.list_check.specs.declared.Judged.{Judged}
 use Rattle.list_check.specs.ListCheck.{wordCheck}
 
 unfoldable pub joins : Ahead → Tile → Bool
-joins a t = ltb 0 (a .row) && (eqb (t .corner) (a .stop) && (eqb (t .size) (a .size) && eqb (t .account) (a .account)))
+joins a t = ltb 0 (a .siblings) && (eqb (t .corner) (a .stop) && (eqb (t .size) (a .size) && eqb (t .account) (a .account)))
 
-unfoldable pub nextRow : Ahead → Tile → ℕ
-nextRow a t = if (aligned (t .size + 1) (t .corner)) 1 (if (joins a t) (a .row + 1) 0)
+unfoldable pub siblingsWith : Ahead → Tile → ℕ
+siblingsWith a t = if (aligned (t .size + 1) (t .corner)) 1 (if (joins a t) (a .siblings + 1) 0)
 
 unfoldable pub aheadOf : List Tile → Ahead
-aheadOf [] = record { stop = 0; size = 0; account = 0; row = 0 }
-aheadOf (t ∷ seen) = record { stop = stop t; size = t .size; account = t .account; row = nextRow (aheadOf seen) t }
+aheadOf [] = record { stop = 0; size = 0; account = 0; siblings = 0 }
+aheadOf (t ∷ seen) = record { stop = stop t; size = t .size; account = t .account; siblings = siblingsWith (aheadOf seen) t }
 
 pub record Knows (a : Ahead) (seen : List Tile) : Type 0 where
-  pub few : a .row ≤ 3
+  pub few : a .siblings ≤ 3
   pub is : a ≡ aheadOf seen
 
 pub record Judges (n : ℕ) (seen : List Tile) (w : ℕ) (r : Judged) : Type 0 where

@@ -5,7 +5,7 @@ ghost use Prim.Native.Nat.{_≤_};
 ghost use lib.ListN.{length, take};
 ghost use Rattle.tile.specs.Tile.{Tile, tile, highestOrder};
 ghost use Rattle.list_check.specs.ListCheck.{soundCheck, wordsCheck, listCheck};
-ghost use Rattle.list_check.specs.Pass.{nextRow, Knows, Judges};
+ghost use Rattle.list_check.specs.Pass.{siblingsWith, Knows, Judges};
 
 // What the pass keeps of the tiles ahead: where the last one stops, its size and account, and how many siblings in a
 // row, from the first of the four on, end with it.
@@ -13,7 +13,7 @@ pub struct Ahead {
     pub stop: u32,
     pub size: u32,
     pub account: u8,
-    pub row: u32,
+    pub siblings: u32,
 }
 
 // What a step says of a word: its refusal, or that it is accepted and what is ahead of the next word.
@@ -30,11 +30,11 @@ pub fn start() -> Ahead
         stop: 0,
         size: 0,
         account: 0,
-        row: 0,
+        siblings: 0,
     }
 }
 
-// The first of rows 11 to 15 that the word breaks, where the tile ahead of it ends at `stop`.
+// The first of checks 11 to 15 that the word breaks, where the tile ahead of it ends at `stop`.
 fn sound(order: u32, stop: u32, word: u32) -> u32
     requires { ⌜ order ≤ highestOrder ⌝ }
     ensures { λ r. ⌜ r ≡ soundCheck order stop word ⌝ }
@@ -63,14 +63,14 @@ fn sound(order: u32, stop: u32, word: u32) -> u32
 }
 
 // How many siblings in a row end with a tile, 4 for the last of four.
-fn row(ahead: Ahead, corner: u32, size: u32, account: u8) -> u32
-    requires { ⌜ (size ≤ highestOrder) × (ahead .row ≤ 3) ⌝ }
-    ensures { λ r. ⌜ r ≡ nextRow ahead (tile corner size account) ⌝ }
+fn siblings_with(ahead: Ahead, corner: u32, size: u32, account: u8) -> u32
+    requires { ⌜ (size ≤ highestOrder) × (ahead .siblings ≤ 3) ⌝ }
+    ensures { λ r. ⌜ r ≡ siblingsWith ahead (tile corner size account) ⌝ }
 {
     if corner % tile::area(size + 1) == 0 {
         return 1;
     }
-    if ahead.row == 0 {
+    if ahead.siblings == 0 {
         return 0;
     }
     if corner != ahead.stop {
@@ -82,12 +82,12 @@ fn row(ahead: Ahead, corner: u32, size: u32, account: u8) -> u32
     if account != ahead.account {
         return 0;
     }
-    ahead.row + 1
+    ahead.siblings + 1
 }
 
 // The word behind the tiles that `ahead` tells of: one step of the pass, also for a reader that has no list yet.
 pub fn step(order: u32, ahead: Ahead, word: u32) -> Judged
-    requires { ⌜ (order ≤ highestOrder) × (ahead .row ≤ 3) ⌝ }
+    requires { ⌜ (order ≤ highestOrder) × (ahead .siblings ≤ 3) ⌝ }
     ensures { λ r. ⌜ ((seen : List Tile) → Knows ahead seen → Judges order seen word r) ⌝ }
 {
     let stop = ahead.stop;
@@ -98,8 +98,8 @@ pub fn step(order: u32, ahead: Ahead, word: u32) -> Judged
     let corner = tile::corner(word);
     let size = tile::size(word);
     let account = tile::account(word);
-    let row = row(ahead, corner, size, account);
-    if row == 4 {
+    let siblings = siblings_with(ahead, corner, size, account);
+    if siblings == 4 {
         return Judged {
             refusal: refusal::SIBLINGS_UNMERGED,
             ahead,
@@ -111,7 +111,7 @@ pub fn step(order: u32, ahead: Ahead, word: u32) -> Judged
             stop: corner + tile::area(size),
             size,
             account,
-            row,
+            siblings,
         },
     }
 }

@@ -1,4 +1,4 @@
--- How a tile merges with the tiles of the words ahead of it: what the contracts of this crate cite. Definitions only.
+-- Inner: how a tile merges with the tiles of the words ahead of it. Definitions only.
 --     upTo t q             the tile of size q and t's account that ends where t ends
 --     Levels e l           blocks end at e up to the size l, and no larger one
 --     EndsWith ts e k a    ts ends with the three siblings ahead of the tile of size k and account a that ends at e

@@ -13,7 +13,7 @@ pub fn is_run(list: &[u32], at: usize, count: usize, corner: u32, size: u32, acc
     ensures { λ r. ⌜ Test (take count (drop at (map tileOf (now (list .entry)))) ≡ tileRun size account count corner)
         r ⌝ }
 {
-    let side = tile::area(size);
+    let area = tile::area(size);
     let mut x = corner;
     let mut j = 0;
     while j < count {
@@ -27,7 +27,7 @@ pub fn is_run(list: &[u32], at: usize, count: usize, corner: u32, size: u32, acc
         if tile::account(w) != account {
             return false;
         }
-        x += side;
+        x += area;
         j += 1;
     }
     true
@@ -40,12 +40,12 @@ pub fn write_run(slots: &mut [u32], at: usize, count: usize, corner: u32, size: 
     ensures { λ r. ⌜ now (slots .exit) ≡ take at (now (slots .entry))
         ++ (map wordOf (tileRun size account count corner) ++ drop (at + count) (now (slots .entry))) ⌝ }
 {
-    let side = tile::area(size);
+    let area = tile::area(size);
     let mut x = corner;
     let mut j = 0;
     while j < count {
         slots[at + j] = tile::pack(x, size, account);
-        x += side;
+        x += area;
         j += 1;
     }
 }

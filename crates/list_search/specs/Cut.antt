@@ -1,4 +1,4 @@
--- Where a Morton number falls among words: what the contracts of this crate cite. Definitions only.
+-- Inner: where a Morton number falls among words. Definitions only.
 --     Cut s i j z r   r lies from i to j; of the words between these, the tile of the one ahead of r starts below z,
 --                     and that of the one at r does not
 use Prim.Native.Nat.{ℕ, _-_, _≤_, _<_}

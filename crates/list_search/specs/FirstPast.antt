@@ -1,5 +1,4 @@
--- Where a Morton number falls among words by their tiles' stops: what the contract of that search cites. Definitions
--- only.
+-- Inner: where a Morton number falls among words by their tiles' stops. Definitions only.
 --     FirstPast s from x r   r splits the tiles from `from` on at x: the tile just ahead of r stops by x, that at r
 --                            past it
 use mathlib.Core.List.{List}

@@ -1,2 +1,3 @@
 -- Laws of lookup.
+--     LookupLaws   laws of lookup
 pub mod LookupLaws

@@ -1,4 +1,4 @@
--- What the contracts of the examination of a file cite. Definitions only.
+-- Inner: what the examination of a file answers. Definitions only.
 --     refusedWith number   the answer of a refusal
 --     examined m bs        the answer for a file with m slots: a refusal, or the order and the tile count of the file
 use mathlib.Core.List.{List}

@@ -1,4 +1,8 @@
 -- Laws of Morton numbers, and what the masks of the code do.
+--     MortonLaws   laws of Morton numbers, for columns and rows of any number n of bits
+--     Squares      a block of Morton numbers is a square of pixels
+--     Masks        what the masks and shifts of the code do
+--     Examples     Morton numbers of a few pixels, computed
 pub mod MortonLaws
 pub mod Squares
 pub mod Masks

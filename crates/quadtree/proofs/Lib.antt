@@ -1,4 +1,17 @@
 -- The theory of linear quadtrees.
+--     Alignment   powers of four and their multiples
+--     Tiling      laws of tilings, the relation that carries a raster through every proof
+--     Shown       what a tile list shows
+--     Chains      quadrant tiles, lists of rising corners and chains
+--     Blocks      the executable quadtree
+--     Siblings    four siblings in a row
+--     Unique      uniqueness
+--     ValidLaws   valid lists and linear quadtrees are the same lists
+--     Linear      the linear quadtree as a reader defines it
+--     Least       the minimum
+--     Change      valid lists changed by one tile or more, by membership alone
+--     Merge       merging
+--     Laws        the laws of the theory, each with its whole statement
 pub mod Alignment
 pub mod Tiling
 pub mod Shown

@@ -1,5 +1,4 @@
--- Tilings: lists of tiles that tile a stretch of a raster, which the contracts of inner functions cite. Definitions
--- only.
+-- Inner: tilings: lists of tiles that tile a stretch of a raster. Definitions only.
 --     On f t               t is aligned, somebody's, and the raster f has its account on all of it
 --     Next f lo t          t is the next tile at or behind lo: what lies between is nobody's
 --     Tiling f hi lo ts    ts tiles the raster f from lo up to hi, by rising corner, with no overlap

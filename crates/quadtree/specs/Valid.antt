@@ -1,4 +1,4 @@
--- Valid tile lists: those that pass checks 11 to 16 of document 01 as tiles. Definitions only.
+-- Inner: valid tile lists: those that pass checks 11 to 16 of document 01 as tiles. Definitions only.
 --     Sound n lo t      checks 12 to 15 of the tile t, where the tile ahead of it ends at lo
 --     Chain n lo ts     each tile of ts is sound, and the tile ahead of the first ends at lo
 --     quarter k a p i   the i-th of the four quadrants, NW, NE, SW, SE, of the block of size k + 1 at the corner p, of

@@ -1,4 +1,4 @@
--- The rows of the table as code has them, by number, which the contracts of the steps cite. Definitions only.
+-- Inner: the rows of the table as code has them, by number. Definitions only.
 --     rowOf c   the number of a class's row
 -- Not here: the table itself and its columns (`Rights`).
 use Prim.Native.Nat.{ℕ}

@@ -1,2 +1,3 @@
 -- Laws of a feed whole and of a fresh scan.
+--     Feeds   a feed whole, and a fresh scan
 pub mod Feeds

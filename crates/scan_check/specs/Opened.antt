@@ -1,5 +1,4 @@
--- What a scan record and its slots have that pass the opening checks, which the contracts of what comes behind them
--- cite. Definitions only.
+-- Inner: what a scan record and its slots have that pass the opening checks. Definitions only.
 --     Opened c slots   the list is valid and fits, the pixels scanned are in range, and what is not scanned is nobody's
 use mathlib.Core.Path.{_≡_}
 use mathlib.Core.List.{List}

@@ -1,4 +1,4 @@
--- One account of a feed and all of them, on a list with a gap: what the contracts of this crate cite. Definitions only.
+-- Inner: one account of a feed and all of them, on a list with a gap. Definitions only.
 --     AtPlace k n s p             p is the pixel with s places before its own in the scan of kind k and order n, with
 --                                 its levels
 --     Trails k s i b p            in Morton order no word lies behind the gap, and the last tile ahead of it starts

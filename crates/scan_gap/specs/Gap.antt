@@ -1,5 +1,4 @@
--- A tile list that lies in lent slots in two parts, with a gap between them: what the contracts of this crate cite.
--- Definitions only.
+-- Inner: a tile list that lies in lent slots in two parts, with a gap between them. Definitions only.
 --     held s i b             the words of the list in the slots s: those before i and those from b on
 --     Fits s i b             the two parts lie apart in s
 --     Awaits n f z ts        ts is the linear quadtree of the raster f of order n, and the pixel z can be put into it:

@@ -1,2 +1,3 @@
 -- Laws of bytes put into a lent buffer.
+--     PutAtLaws   laws of bytes put into a lent buffer
 pub mod PutAtLaws

@@ -1,4 +1,4 @@
--- Bytes put into a lent buffer: done in front, untouched behind. Definitions only.
+-- Inner: bytes put into a lent buffer: done in front, untouched behind. Definitions only.
 --     countLimit                      places and counts are below it
 --     PutAt bytes at old end new    putting the bytes from the place `at` on made the buffer `new` of `old`, and `end`
 --                                     is the place behind them

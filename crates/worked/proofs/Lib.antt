@@ -1,2 +1,3 @@
 -- The worked beds, computed.
+--     StarredComputed   the starred lines, computed by the checker
 pub mod StarredComputed

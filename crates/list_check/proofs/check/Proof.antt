@@ -1,4 +1,4 @@
--- Rows 1 and 2, then the words.
+-- Checks 1 and 2, then the words.
 use borrow.Author.Tests.{lt-leb, le-leb}
 use Rattle.refusal.specs.Checks.{must}
 use Rattle.list_check.specs.ListCheck.{listCheck}

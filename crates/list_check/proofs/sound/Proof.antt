@@ -1,4 +1,4 @@
--- The code's tests are the definition's, in its order: each return is the row whose test failed, behind those that passed.
+-- The code's tests are the definition's, in its order: each return is the check whose test failed, behind those that passed.
 use borrow.Author.Tests.{lt-leb, le-leb, lt-ltb, le-ltb, eq-eqb, ne-eqb}
 use Rattle.quadtree.specs.Raster.{aligned}
 use Rattle.refusal.specs.Checks.{must}

@@ -1,4 +1,4 @@
--- Rows 11 to 15 are `sound`'s, row 16 is the row of siblings: each end of the code is a law of one word.
+-- Checks 11 to 15 are `sound`'s, check 16 is by the count of siblings: each end of the code is a law of one word.
 use Rattle.list_check.proofs.OneWord.{step-bad, step-last, step-good, sound-passed, stop-fits}
 use mathlib.Core.Path.{_∙_, sym}
 use native.Mathlib.Omega.{arith}
@@ -9,8 +9,8 @@ use Rattle.list_check.proofs.step.Tie as tie
 returns : tie.Need-returns
 returns c = λ seen e. step-bad _ seen _ _ e _ (c .before .sound .ensures) (c .if1 .taken)
 
-row-requires : tie.Need-row-requires
-row-requires c κs =
+siblings-with-requires : tie.Need-siblings-with-requires
+siblings-with-requires c κs =
     let a = c .before .before .before .before .before .args in
     let sound = c .before .before .before .before .sound in
     let if1 = c .before .before .before .if1 in
@@ -24,7 +24,7 @@ returns-2 c =
     let corner = c .before .before .before .before .corner in
     let size = c .before .before .before .size in
     λ seen e. step-last _ seen _ _ e _ (sound .ensures) (if1 .left) _ _ _ _ (corner .ensures) (size .ensures) (c .before .before .account .ensures)
-    (c .before .row .ensures) (c .if2 .taken)
+    (c .before .siblings-with .ensures) (c .if2 .taken)
 
 area-requires : tie.Need-area-requires
 area-requires c κs =
@@ -42,7 +42,7 @@ returns-3 c =
     let size = c .before .before .before .before .size in
     let account = c .before .before .before .account in
     λ seen e. step-good _ seen _ _ e _ (sound .ensures) (if1 .left) _ _ _ _ (corner .ensures) (size .ensures) (account .ensures)
-    (c .before .before .row .ensures) (c .before .if2 .left) _ (c .area .ensures)
+    (c .before .before .siblings-with .ensures) (c .before .if2 .left) _ (c .area .ensures)
 
 add-t12 : tie.Need-add-t12
 add-t12 c =
@@ -58,5 +58,5 @@ add-t12 c =
 
 pub step-spec : {M : Type 1} → statement M
 step-spec =
-    tie.close (tie.spec (λ c κs. search needs) returns (λ c κs. search needs) (λ c κs. search needs) (λ c κs. search needs) row-requires returns-2
+    tie.close (tie.spec (λ c κs. search needs) returns (λ c κs. search needs) (λ c κs. search needs) (λ c κs. search needs) siblings-with-requires returns-2
     area-requires add-t12 returns-3)

@@ -9,10 +9,10 @@ use Rattle.list_run.proofs.is_run.Statement.{statement}
 use Rattle.list_run.proofs.is_run.Tie as tie
 
 abbrev Inv-loop : tie.InvT-loop
-Inv-loop list at count corner size account side x₀ j₀ x j = Reading size account list at count corner j x
+Inv-loop list at count corner size account area x₀ j₀ x j = Reading size account list at count corner j x
 
 abbrev μ-loop : tie.MeasureT-loop
-μ-loop list at count corner size account side x₀ j₀ x j = count - j
+μ-loop list at count corner size account area x₀ j₀ x j = count - j
 
 loop-holds : tie.Need-loop-holds Inv-loop μ-loop
 loop-holds c = let a = c .before .before .args in read-none (a .size) (a .account) (a .list .now) (a .at) (a .count) (a .corner)

@@ -12,12 +12,12 @@ use Rattle.list_run.proofs.write_run.Statement.{statement}
 use Rattle.list_run.proofs.write_run.Tie as tie
 
 abbrev Inv-loop : tie.InvT-loop
-Inv-loop slots₀ at count corner size account side x₀ j₀ slots x j =
+Inv-loop slots₀ at count corner size account area x₀ j₀ slots x j =
     Writing size account (take at slots₀ ++ (map wordOf (tileRun size account count corner) ++ drop (at + count) slots₀)) slots at count corner j x
     × (length slots ≡ length slots₀)
 
 abbrev μ-loop : tie.MeasureT-loop
-μ-loop slots₀ at count corner size account side x₀ j₀ slots x j = count - j
+μ-loop slots₀ at count corner size account area x₀ j₀ slots x j = count - j
 
 loop-holds : tie.Need-loop-holds Inv-loop μ-loop
 loop-holds c = let a = c .before .before .args in (write-none (a .size) (a .account) (a .slots .now) (a .at) (a .count) (a .corner), refl)
