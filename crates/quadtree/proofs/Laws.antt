@@ -9,8 +9,8 @@ use Rattle.quadtree.specs.Raster.{Aligned, Uniform, accountAt, paint, _�
 use Rattle.quadtree.specs.Quadtree.{Largest, LinearQuadtree, quadtree}
 use Rattle.quadtree.specs.Valid.{Valid}
 use Rattle.quadtree.proofs.ValidLaws.{quadtree-valid, quadtree-shown, valid-unique}
-use Rattle.quadtree.proofs.Linear.{quadtree-linear, linear-unique, valid-linear, valid-cover, quadtree-shows}
 use Rattle.quadtree.proofs.Least.{shows-least}
+use Rattle.quadtree.proofs.Linear.{quadtree-linear, linear-unique, valid-linear, valid-cover, quadtree-shows}
 use Rattle.quadtree.proofs.Change.{Fits, Completes, valid-remove, valid-insert}
 use Rattle.quadtree.proofs.Merge.{Places, places-painted}
 

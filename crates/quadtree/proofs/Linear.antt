@@ -30,12 +30,6 @@ tiling-held (next {t = t} {ts = ts} n r) z l g o = elim (decLt z (t .corner)) [
   ]
 ]
 
-pub quadtree-largest : (n : ℕ) (f : ℕ → ℕ) {t : Tile} → t ∈ quadtree n f → Largest n f t
-quadtree-largest n f {t} i =
-    let p = placed (quadtree-tiling n f) i in
-    let b = quadtree-top n f t i in
-    record { quadrant = record { fits = b .fits; inside = omega (arith, p .upto, area-pos (t .size)); aligned = p .on .aligned; owned = p .on .owned }; uniform = p .on .uniform; top = b .top }
-
 -- of two largest blocks that meet, each is the other
 largest-meet : {n : ℕ} {f : ℕ → ℕ} {t u : Tile} → Largest n f t → Largest n f u → Covers u (t .corner) → u ≡ t
 largest-meet {n} {f} {t} {u} p q c = go (cmp (u .size) (t .size))
@@ -52,6 +46,12 @@ largest-meet {n} {f} {t} {u} p q c = go (cmp (u .size) (t .size))
         absurd (q .top (t .size) (t .corner) s (p .quadrant .fits) (p .quadrant .aligned) (omega arith) (omega (arith, area-pos (t .size))) (λ z zl zh. p .uniform z zl zh ∙ sym account))
     go (same s) = λ i. record { corner = corner (omega arith) i; size = s i; account = account i }
     go (above s) = absurd (p .top (u .size) (u .corner) s (q .quadrant .fits) (q .quadrant .aligned) (c .0) (c .1) (λ z zl zh. q .uniform z zl zh ∙ account))
+
+pub quadtree-largest : (n : ℕ) (f : ℕ → ℕ) {t : Tile} → t ∈ quadtree n f → Largest n f t
+quadtree-largest n f {t} i =
+    let p = placed (quadtree-tiling n f) i in
+    let b = quadtree-top n f t i in
+    record { quadrant = record { fits = b .fits; inside = omega (arith, p .upto, area-pos (t .size)); aligned = p .on .aligned; owned = p .on .owned }; uniform = p .on .uniform; top = b .top }
 
 pub largest-quadtree : (n : ℕ) (f : ℕ → ℕ) {t : Tile} → Largest n f t → t ∈ quadtree n f
 largest-quadtree n f {t} b =

@@ -3,7 +3,7 @@
 use mathlib.Core.Path.{_≡_}
 use mathlib.Core.List.{List, [], _∷_, map}
 use Prim.Native.Nat.{ℕ}
-use lib.ListN.{length, take, getD, replicate}
+use lib.ListN.{length, take, replicate}
 use Rattle.refusal.specs.Refusal.{accepted, sizeAboveOrder, slotsExceeded}
 use Rattle.refusal.specs.Checks.{After}
 use Rattle.tile.specs.Tile.{Tile, tile, wordOf}
@@ -12,18 +12,12 @@ use Rattle.quadtree.specs.Quadtree.{quadtree}
 use Rattle.list_check.specs.ListCheck.{listCheck}
 use Rattle.bed.specs.declared.Kind.the-variants.{Rows}
 use Rattle.bed.specs.Places.{rows, scanOf}
+use Rattle.bed.specs.Worked.{bedM, rowsM}
 use Rattle.part.specs.Part.{partOf, sliceOf}
 use Rattle.scan.specs.declared.Fed.{Fed}
 use Rattle.scan.specs.FreshScan.{freshOf}
 use Rattle.scan.specs.Feed.{feedOf}
 use Rattle.claim.specs.Claim.{claimOf}
-
--- bed M, order 2, by Morton number and by rows
-abbrev pub bedM : ℕ → ℕ
-bedM z = getD (5 ∷ 5 ∷ 5 ∷ 5 ∷ 0 ∷ 0 ∷ 0 ∷ 9 ∷ 9 ∷ 0 ∷ 0 ∷ 0 ∷ 9 ∷ 9 ∷ 9 ∷ 9 ∷ []) z 0
-
-abbrev pub rowsM : List ℕ
-rowsM = 5 ∷ 5 ∷ 0 ∷ 0 ∷ 5 ∷ 5 ∷ 0 ∷ 9 ∷ 9 ∷ 0 ∷ 9 ∷ 9 ∷ 0 ∷ 0 ∷ 9 ∷ 9 ∷ []
 
 abbrev pub tilesM : List Tile
 tilesM = tile 0 1 5 ∷ tile 7 0 9 ∷ tile 8 0 9 ∷ tile 12 1 9 ∷ []
