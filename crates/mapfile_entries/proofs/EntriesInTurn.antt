@@ -13,6 +13,7 @@ use Rattle.tile.proofs.TileLaws.{tileOf-account}
 use Rattle.mapfile_bytes.specs.Items.{wordAt, wordsAt}
 use Rattle.mapfile_roster.specs.Roster.{Entry, listed, entryGood, entriesGood, tilesListed}
 use Rattle.mapfile_roster.specs.Accounts.{has, SetOf}
+use Rattle.mapfile_roster.specs.declared.Accounts.{Accounts}
 use Rattle.mapfile_entries.specs.RosterCheck.{entriesAt}
 
 module _ (ts : List Tile) (all : List Entry) (q : ℕ) (rs : List ℕ) where
@@ -44,7 +45,7 @@ module _ (all : List Entry) (t : ℕ) (bs : List ℕ) where
     unfolding tilesListed wordsAt
     tiles-end h = let z : t - i ≡ 0 = omega arith in sym (e ∙ rw z)
 
-    module _ {set : ℕ} (s : SetOf (λ x. ltb 0 (listed x all)) set) (h : i < t) (v a : ℕ) (g : Bool) (ev : v ≡ wordAt bs p) (ea : a ≡ tileOf v .account) (eg : g ≡ has set a) where
+    module _ {set : Accounts} (s : SetOf (λ x. ltb 0 (listed x all)) set) (h : i < t) (v a : ℕ) (g : Bool) (ev : v ≡ wordAt bs p) (ea : a ≡ tileOf v .account) (eg : g ≡ has set a) where
       tile-turn : w ≡ (g && tilesListed all (map tileOf (wordsAt (t - (i + 1)) bs (p + 4))))
       unfolding tilesListed wordsAt
       tile-turn =

@@ -110,7 +110,7 @@ fn entries_good(order: u32, tiles: usize, file: &[u8], entries: usize, section: 
 }
 
 // A set of accounts with the account of an entry: a byte above the highest account is none.
-fn with_entry(set: u64, account: u8) -> u64
+fn with_entry(set: mapfile_roster::Accounts, account: u8) -> mapfile_roster::Accounts
     ensures { λ r. ⌜ SetOf (λ a. eqb account a || has set a) r ⌝ }
 {
     if account > tile::HIGHEST_ACCOUNT {
@@ -120,11 +120,11 @@ fn with_entry(set: u64, account: u8) -> u64
 }
 
 // The set of the accounts that have entries: one pass over the entries.
-fn named(entries: usize, section: &[u8]) -> u64
+fn named(entries: usize, section: &[u8]) -> mapfile_roster::Accounts
     requires { ⌜ rosterLength entries ≤ length (now section) ⌝ }
     ensures { λ r. ⌜ SetOf (λ a. ltb 0 (listed a (entriesAt entries (now (section .entry)) entriesPlace))) r ⌝ }
 {
-    let mut set = 0;
+    let mut set = mapfile_roster::none();
     let mut j = 0;
     let mut p = mapfile_bytes::ENTRIES_PLACE;
     while j < entries {

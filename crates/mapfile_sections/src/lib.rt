@@ -13,9 +13,6 @@ ghost use Rattle.mapfile_roster.specs.Accounts.{SetOf};
 ghost use Rattle.mapfile_sections.specs.OneEntry.{entryOf};
 ghost use Rattle.mapfile_sections.specs.Sections.{wordBytes, wordsBytes, entriesBytes, rosterBytes};
 
-// Somebody's accounts go from it to the highest.
-const LOWEST_ACCOUNT: u8 = 1;
-
 // The lowest byte of a number.
 fn low(w: u32) -> u8
     ensures { λ r. ⌜ r ≡ w % 256 ⌝ }
@@ -63,11 +60,11 @@ fn total(account: u8, order: u32, tiles: usize, slots: &[u32]) -> u32
 }
 
 // The set of the accounts that have tiles: one pass over the list.
-fn tiled(tiles: usize, slots: &[u32]) -> u64
+fn tiled(tiles: usize, slots: &[u32]) -> mapfile_roster::Accounts
     requires { ⌜ tiles ≤ length (now slots) ⌝ }
     ensures { λ r. ⌜ SetOf (λ a. ltb 0 (covered a (tilesIn tiles (now (slots .entry))))) r ⌝ }
 {
-    let mut set = 0;
+    let mut set = mapfile_roster::none();
     let mut i = 0;
     while i < tiles {
         set = mapfile_roster::with(set, tile::account(slots[i]));
@@ -76,18 +73,23 @@ fn tiled(tiles: usize, slots: &[u32]) -> u64
     set
 }
 
-// How many accounts have tiles: the members of their set, from the lowest account on.
+// How many accounts have tiles.
 pub fn accounts(tiles: usize, slots: &[u32]) -> usize
     requires { ⌜ tiles ≤ length (now slots) ⌝ }
     ensures { λ r. ⌜ r ≡ length (rosterOf (tilesIn tiles (now (slots .entry)))) ⌝ }
 {
-    let set = tiled(tiles, slots);
-    u64::count_ones(set >> LOWEST_ACCOUNT) as usize
+    mapfile_roster::count(tiled(tiles, slots))
 }
 
 // The pixels that an account covers: none where it is not in the set of the accounts that have tiles, else one pass
 // over the list.
-fn pixels_of(set: u64, account: u8, order: u32, tiles: usize, slots: &[u32]) -> u32
+fn pixels_of(
+    set: mapfile_roster::Accounts,
+    account: u8,
+    order: u32,
+    tiles: usize,
+    slots: &[u32],
+) -> u32
     requires { ⌜ (account ≤ highestAccount) × SetOf (λ a. ltb 0 (covered a (tilesIn tiles (now slots)))) set
         × (order ≤ highestOrder) × (tiles ≤ length (now slots)) × Valid order (tilesIn tiles (now slots)) ⌝ }
     ensures { λ r. ⌜ r ≡ covered account (tilesIn tiles (now (slots .entry))) ⌝ }
@@ -112,7 +114,8 @@ fn put_entry(file: &mut [u8], p: usize, account: u8, pixels: u32) -> usize
     p + 5
 }
 
-// The roster's entries, by rising account, into the bytes from `at` on.
+// The roster's entries, by rising account, into the bytes from `at` on. What counts the accounts is wider than an
+// account, so that it can pass the highest.
 fn put_entries(order: u32, tiles: usize, slots: &[u32], at: usize, file: &mut [u8])
     requires { ⌜ (order ≤ highestOrder) × (tiles ≤ length (now slots)) × Valid order (tilesIn tiles (now slots))
         × (at + 5 * length (rosterOf (tilesIn tiles (now slots))) ≤ length (now file)) ⌝ }
@@ -121,11 +124,12 @@ fn put_entries(order: u32, tiles: usize, slots: &[u32], at: usize, file: &mut [u
 {
     let set = tiled(tiles, slots);
     let mut p = at;
-    let mut account = LOWEST_ACCOUNT;
-    while account <= tile::HIGHEST_ACCOUNT {
+    let mut next = mapfile_roster::LOWEST_ACCOUNT as usize;
+    while next <= tile::HIGHEST_ACCOUNT as usize {
+        let account = next as u8;
         let pixels = pixels_of(set, account, order, tiles, slots);
         p = put_entry(file, p, account, pixels);
-        account += 1;
+        next += 1;
     }
 }
 

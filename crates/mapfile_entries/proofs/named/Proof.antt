@@ -20,20 +20,23 @@ abbrev μ-loop : tie.MeasureT-loop
 μ-loop entries section set₀ j₀ p₀ set j p = entries - j
 
 loop-holds : tie.Need-loop-holds Inv-loop μ-loop
-loop-holds c = (search needs, search needs, named-start (c .before .args .entries) (c .before .args .section .now))
+loop-holds c =
+    let a = c .before .before .args in
+    (search needs, search needs, named-start (a .entries) (a .section .now) (c .none .ensures))
 
 loop-again : tie.Need-loop-again Inv-loop μ-loop
 loop-again c =
     let l = c .before .before .before .loop in
-    let a = c .before .before .before .before .before .args in
+    let a = c .before .before .before .before .before .before .args in
     (search needs, search needs, named-on (a .entries) (a .section .now) (l .j) (l .p) (l .inv .2) (omega arith) (c .with-entry .ensures))
 
 returns : tie.Need-returns Inv-loop μ-loop
 returns c =
     let l = c .before .loop in
-    named-end (c .before .before .before .args .entries) (c .before .before .before .args .section .now) (l .j) (l .p) (l .inv .2) (omega arith)
+    let a = c .before .before .before .before .args in
+    named-end (a .entries) (a .section .now) (l .j) (l .p) (l .inv .2) (omega arith)
 
 pub named-spec : {M : Type 1} → statement M
 named-spec =
-    tie.close (tie.spec Inv-loop μ-loop loop-holds (λ c. search needs) (λ c κs. search needs) (λ c. search needs) (λ c. search needs)
+    tie.close (tie.spec Inv-loop μ-loop (λ c κs. search needs) loop-holds (λ c. search needs) (λ c κs. search needs) (λ c. search needs) (λ c. search needs)
     (λ c. search needs) loop-again returns)

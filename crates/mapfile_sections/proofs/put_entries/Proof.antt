@@ -14,12 +14,12 @@ use Rattle.mapfile_sections.proofs.put_entries.Statement.{statement}
 use Rattle.mapfile_sections.proofs.put_entries.Tie as tie
 
 abbrev Inv-loop : tie.InvT-loop
-Inv-loop order tiles slots at file₀ set p₀ account₀ file p account =
-    (account ≤ suc highestAccount) × (length file ≡ length file₀) × (p + 5 * length (rosterAt (tilesIn tiles slots) account) ≤ length file₀)
-    × (sets file₀ at (entriesBytes (rosterOf (tilesIn tiles slots))) ≡ sets file p (entriesBytes (rosterAt (tilesIn tiles slots) account)))
+Inv-loop order tiles slots at file₀ set p₀ next₀ file p next =
+    (next ≤ suc highestAccount) × (length file ≡ length file₀) × (p + 5 * length (rosterAt (tilesIn tiles slots) next) ≤ length file₀)
+    × (sets file₀ at (entriesBytes (rosterOf (tilesIn tiles slots))) ≡ sets file p (entriesBytes (rosterAt (tilesIn tiles slots) next)))
 
 abbrev μ-loop : tie.MeasureT-loop
-μ-loop order tiles slots at file₀ set p₀ account₀ file p account = suc highestAccount - account
+μ-loop order tiles slots at file₀ set p₀ next₀ file p next = suc highestAccount - next
 
 loop-holds : tie.Need-loop-holds Inv-loop μ-loop
 loop-holds c = (search needs, search needs, c .before .before .before .pre .3, refl)
@@ -37,10 +37,10 @@ loop-again c =
         arith,
         l .inv .2,
         put-entry .ensures .0,
-        entries-room ts (l .account) (pixels-of .result) (omega arith)
+        entries-room ts (l .next) (pixels-of .result) (omega arith)
             (pixels-of .ensures),
       ),
-      entries-on ts (l .account) (l .p) (l .file) (l .inv .3) _ (pixels-of .result) (put-entry .result) (omega arith)
+      entries-on ts (l .next) (l .p) (l .file) (l .inv .3) _ (pixels-of .result) (put-entry .result) (omega arith)
           (pixels-of .ensures) (put-entry .ensures .0) (put-entry .ensures .1),
     )
 
@@ -48,7 +48,7 @@ returns : tie.Need-returns Inv-loop μ-loop
 returns c =
     let a = c .before .before .before .before .before .args in
     let l = c .before .loop in
-    entries-end (tilesIn (a .tiles) (a .slots .now)) (l .account) (l .p) (l .file) (l .inv .3) (omega arith)
+    entries-end (tilesIn (a .tiles) (a .slots .now)) (l .next) (l .p) (l .file) (l .inv .3) (omega arith)
 
 put-entry-requires : tie.Need-put-entry-requires Inv-loop μ-loop
 put-entry-requires c κs =
@@ -57,11 +57,11 @@ put-entry-requires c κs =
     omega (
       arith,
       l .inv .2,
-      entries-room (tilesIn (a .tiles) (a .slots .now)) (l .account) (c .before .pixels-of .result) (omega arith)
+      entries-room (tilesIn (a .tiles) (a .slots .now)) (l .next) (c .before .pixels-of .result) (omega arith)
           (c .before .pixels-of .ensures),
     )
 
 pub put-entries-spec : {M : Type 1} → statement M
 put-entries-spec =
-    tie.close (tie.spec Inv-loop μ-loop (λ c κs. search needs) loop-holds (λ c κs. search needs) put-entry-requires (λ c. search needs)
-    (λ c. search needs) loop-again (λ c. search needs) returns)
+    tie.close (tie.spec Inv-loop μ-loop (λ c κs. search needs) (λ c. search needs) loop-holds (λ c. search needs) (λ c. search needs)
+    (λ c κs. search needs) put-entry-requires (λ c. search needs) (λ c. search needs) loop-again (λ c. search needs) returns)

@@ -23,11 +23,13 @@ abbrev μ-loop : tie.MeasureT-loop
 μ-loop tiles slots set₀ i₀ set i = tiles - i
 
 loop-holds : tie.Need-loop-holds Inv-loop μ-loop
-loop-holds c = (search needs, tiled-start (c .before .args .tiles) (c .before .args .slots .now))
+loop-holds c =
+    let a = c .before .before .args in
+    (search needs, tiled-start (a .tiles) (a .slots .now) (c .none .ensures))
 
 loop-again : tie.Need-loop-again Inv-loop μ-loop
 loop-again c =
-    let a = c .before .before .before .before .before .before .args in
+    let a = c .before .before .before .before .before .before .before .args in
     let l = c .before .before .before .before .loop in
     let k = length-take-le (a .tiles) (a .slots .now) (omega arith) in (
       search needs,
@@ -37,18 +39,18 @@ loop-again c =
 
 returns : tie.Need-returns Inv-loop μ-loop
 returns c =
-    let a = c .before .before .before .args in
+    let a = c .before .before .before .before .args in
     let l = c .before .loop in
     let k = length-take-le (a .tiles) (a .slots .now) (omega arith) in
     tiled-end (take (a .tiles) (a .slots .now)) (l .i) (l .inv .1) (omega arith)
 
 with-requires : tie.Need-with-requires Inv-loop μ-loop
 with-requires c κs =
-    let a = c .before .before .before .before .before .args in
+    let a = c .before .before .before .before .before .before .args in
     let l = c .before .before .before .loop in
     omega (arith, c .account .ensures, tileOf-account (getD (a .slots .now) (l .i) 0))
 
 pub tiled-spec : {M : Type 1} → statement M
 tiled-spec =
-    tie.close (tie.spec Inv-loop μ-loop loop-holds (λ c. search needs) (λ c. search needs) (λ c κs. search needs) with-requires (λ c. search needs)
+    tie.close (tie.spec Inv-loop μ-loop (λ c κs. search needs) loop-holds (λ c. search needs) (λ c. search needs) (λ c κs. search needs) with-requires (λ c. search needs)
     (λ c. search needs) loop-again returns)
