@@ -1,4 +1,7 @@
 -- Laws of the roster and of sets of accounts.
+--     CoveredLaws    laws of the pixels that an account covers
+--     RosterLaws     laws of the roster that the writer lists
+--     AccountsLaws   laws of sets of accounts
 pub mod CoveredLaws
 pub mod RosterLaws
 pub mod AccountsLaws

@@ -1,4 +1,4 @@
--- Sets of accounts: bit a of a set is 1 where the account a is in it. Definitions only.
+-- Inner: sets of accounts: bit a of a set is 1 where the account a is in it. Definitions only.
 --     has set a     the account a is in the set
 --     SetOf g set   the accounts in the set are those that pass the test g
 --     count set     how many of somebody's accounts are in the set

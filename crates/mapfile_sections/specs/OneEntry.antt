@@ -1,4 +1,4 @@
--- What the contract of one step of the roster cites. Definitions only.
+-- Inner: the entry of one account. Definitions only.
 --     entryOf a x   the entry of the account a, which covers x pixels, or none where it covers none
 use mathlib.Core.List.{List, [], _∷_}
 use Prim.Native.Nat.{ℕ}

@@ -52,5 +52,5 @@ with-requires c κs =
 
 pub tiled-spec : {M : Type 1} → statement M
 tiled-spec =
-    tie.close (tie.spec Inv-loop μ-loop (λ c κs. search needs) loop-holds (λ c. search needs) (λ c. search needs) (λ c κs. search needs) with-requires (λ c. search needs)
-    (λ c. search needs) loop-again returns)
+    tie.close (tie.spec Inv-loop μ-loop (λ c κs. search needs) loop-holds (λ c. search needs) (λ c. search needs) (λ c κs. search needs) with-requires
+    (λ c. search needs) (λ c. search needs) loop-again returns)
