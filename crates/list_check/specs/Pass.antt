@@ -1,6 +1,7 @@
 -- Inner: what one pass over a list keeps of the tiles that it has seen. Definitions only.
 --     joins a t            t is the next of the siblings that `a` counts
---     siblingsWith a t          how many siblings in a row end with t, from the first of the four on; 0 where the row lacks
+--     siblingsWith a t          how many siblings in a row end with t, from the first of the four on; 0 where the row
+--                               lacks
 --                          its first
 --     aheadOf seen         what the pass keeps of the tiles seen, which are given last first
 --     Knows a seen         `a` is that, and the tiles seen do not end with four siblings
@@ -21,14 +22,21 @@ use Rattle.list_check.specs.declared.Judged.{Judged}
 use Rattle.list_check.specs.ListCheck.{wordCheck}
 
 unfoldable pub joins : Ahead → Tile → Bool
-joins a t = ltb 0 (a .siblings) && (eqb (t .corner) (a .stop) && (eqb (t .size) (a .size) && eqb (t .account) (a .account)))
+joins a t = ltb 0 (a .siblings) && (eqb (t .corner) (a .stop) &&
+    (eqb (t .size) (a .size) && eqb (t .account) (a .account)))
 
 unfoldable pub siblingsWith : Ahead → Tile → ℕ
 siblingsWith a t = if (aligned (t .size + 1) (t .corner)) 1 (if (joins a t) (a .siblings + 1) 0)
 
 unfoldable pub aheadOf : List Tile → Ahead
 aheadOf [] = record { stop = 0; size = 0; account = 0; siblings = 0 }
-aheadOf (t ∷ seen) = record { stop = stop t; size = t .size; account = t .account; siblings = siblingsWith (aheadOf seen) t }
+aheadOf (t ∷ seen) = record {
+  stop = stop t;
+  size = t .size;
+  account = t .account;
+  siblings =
+      siblingsWith (aheadOf seen) t;
+}
 
 pub record Knows (a : Ahead) (seen : List Tile) : Type 0 where
   pub few : a .siblings ≤ 3
