@@ -61,8 +61,7 @@ afterFresh c r = record {
 unfoldable pub afterFeed : After Fed → Step
 afterFeed r = record {
   answer = answer (r .answer .number) (r .answer .taken);
-  state =
-      record { scan = r .answer .scan; slots = r .storage };
+  state = record { scan = r .answer .scan; slots = r .storage };
 }
 
 unfoldable pub afterClaim : Scan → After Claimed → Step

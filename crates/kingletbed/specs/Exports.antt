@@ -25,8 +25,7 @@ freshNumbers r = record {
   answer = record {
     number = r .answer .number;
     kind = kindNumber (r .answer .scan .kind);
-    order =
-        r .answer .scan .order;
+    order = r .answer .scan .order;
     pixels = r .answer .scan .pixels;
     tiles = r .answer .scan .tiles;
   };
@@ -38,12 +37,10 @@ fedNumbers r = record {
   answer = record {
     number = r .answer .number;
     taken = r .answer .taken;
-    kind =
-        kindNumber (r .answer .scan .kind);
+    kind = kindNumber (r .answer .scan .kind);
     order = r .answer .scan .order;
     pixels = r .answer .scan .pixels;
-    tiles =
-        r .answer .scan .tiles;
+    tiles = r .answer .scan .tiles;
   };
   storage = r .storage;
 }

@@ -1,11 +1,10 @@
 -- Inner: what one pass over a list keeps of the tiles that it has seen. Definitions only.
 --     joins a t            t is the next of the siblings that `a` counts
---     siblingsWith a t          how many siblings in a row end with t, from the first of the four on; 0 where the row
---                               lacks
---                          its first
+--     siblingsWith a t     how many siblings, one behind the other from the first of the four on, end with t; 0 where
+--                          the first is missing
 --     aheadOf seen         what the pass keeps of the tiles seen, which are given last first
 --     Knows a seen         `a` is that, and the tiles seen do not end with four siblings
---     Judges n seen w r   what a step has to say of the word w behind the tiles seen: its refusal, or what is ahead of
+--     Judges n seen w r    what a step has to say of the word w behind the tiles seen: its refusal, or what is ahead of
 --                          the next word
 -- Not here: what is refused (`ListCheck`), which does not speak of these.
 use mathlib.Core.Path.{_≡_}
@@ -30,13 +29,8 @@ siblingsWith a t = if (aligned (t .size + 1) (t .corner)) 1 (if (joins a t) (a .
 
 unfoldable pub aheadOf : List Tile → Ahead
 aheadOf [] = record { stop = 0; size = 0; account = 0; siblings = 0 }
-aheadOf (t ∷ seen) = record {
-  stop = stop t;
-  size = t .size;
-  account = t .account;
-  siblings =
-      siblingsWith (aheadOf seen) t;
-}
+aheadOf (t ∷ seen) =
+    record { stop = stop t; size = t .size; account = t .account; siblings = siblingsWith (aheadOf seen) t }
 
 pub record Knows (a : Ahead) (seen : List Tile) : Type 0 where
   pub few : a .siblings ≤ 3

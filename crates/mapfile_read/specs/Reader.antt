@@ -61,6 +61,5 @@ readBed bs = record {
   order = fileOrder bs;
   kind = Rows;
   scanned = 4 ^ fileOrder bs;
-  account =
-      accountAt (map tileOf (fileWords bs));
+  account = accountAt (map tileOf (fileWords bs));
 }

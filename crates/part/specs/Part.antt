@@ -35,8 +35,7 @@ partOf n t slots c k =
     (record {
       number = accepted;
       position = counted (isAhead c) (tilesIn t slots);
-      length =
-          counted (isInside c k) (tilesIn t slots);
+      length = counted (isInside c k) (tilesIn t slots);
     })
 
 unfoldable pub sliceOf : ℕ → ℕ → List ℕ → ℕ → ℕ → List ℕ

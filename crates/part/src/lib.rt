@@ -30,10 +30,8 @@ fn inside(tiles: usize, slots: &[u32], corner: u32, size: u32) -> Part
     requires { ⌜ ((n : ℕ) × (partCheck n tiles (now slots) corner size ≡ accepted)) ⌝ }
     ensures { λ r. ⌜ r ≡ record {
       number = accepted;
-      position =
-          counted (isAhead corner) (tilesIn tiles (now (slots .entry)));
-      length =
-          counted (isInside corner size) (tilesIn tiles (now (slots .entry)));
+      position = counted (isAhead corner) (tilesIn tiles (now (slots .entry)));
+      length = counted (isInside corner size) (tilesIn tiles (now (slots .entry)));
     } ⌝ }
 {
     let position = list_search::ahead(slots, tiles, corner);

@@ -25,8 +25,7 @@ fedTo m r =
       answer = record {
         number = r .number;
         taken = r .taken;
-        scan =
-            scanOf (r .bed .kind) (r .bed .order) (r .bed .scanned) (length ts);
+        scan = scanOf (r .bed .kind) (r .bed .order) (r .bed .scanned) (length ts);
       };
       storage = filled m ts;
     }

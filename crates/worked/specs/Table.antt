@@ -38,8 +38,7 @@ fed number taken n s m ts = record {
   answer = record {
     number = number;
     taken = taken;
-    scan =
-        scanOf Rows n s (length ts);
+    scan = scanOf Rows n s (length ts);
   };
   storage = filled m ts;
 }
