@@ -1,17 +1,16 @@
 -- The checks of what a call is handed besides its map, one by one (document 01, "Refusals by the place of the check");
--- the calls compose them. Definitions only.
+-- the calls compose them; `blockIn` and `isAccount` stand with the plain bed. Definitions only.
 --     pointIn n c r      column c and row r are below 2 ^ n
 --     pointCheck n c r   31, the point asked
---     blockCheck n c k   32, the block asked (`blockIn` stands with the plain bed)
+--     blockCheck n c k   32, the block asked
 --     askerCheck p       34, the asking account
 --     givenCheck a       24, the account given
 use mathlib.Core.Bool.{Bool, _&&_}
 use Prim.Native.Nat.{ℕ, _^_}
-use lib.Dec.{leb, ltb}
+use lib.Dec.{ltb}
 use Rattle.refusal.specs.Refusal.{accepted, accountTooLarge, pointOutside, blockInvalid, askerInvalid}
 use Rattle.refusal.specs.Checks.{must}
-use Rattle.tile.specs.Tile.{highestAccount}
-use Rattle.bed.specs.Bed.{blockIn}
+use Rattle.bed.specs.Bed.{isAccount, blockIn}
 
 unfoldable pub pointIn : ℕ → ℕ → ℕ → Bool
 pointIn n c r = ltb c (2 ^ n) && ltb r (2 ^ n)
@@ -23,7 +22,7 @@ unfoldable pub blockCheck : ℕ → ℕ → ℕ → ℕ
 blockCheck n c k = must (blockIn n c k) blockInvalid accepted
 
 unfoldable pub askerCheck : ℕ → ℕ
-askerCheck p = must (ltb 0 p && leb p highestAccount) askerInvalid accepted
+askerCheck p = must (ltb 0 p && isAccount p) askerInvalid accepted
 
 unfoldable pub givenCheck : ℕ → ℕ
-givenCheck a = must (leb a highestAccount) accountTooLarge accepted
+givenCheck a = must (isAccount a) accountTooLarge accepted

@@ -6,6 +6,7 @@
 --     entriesPlace    where the entries stand in the roster section: behind their count, which is one byte
 --     entryLength     the bytes of an entry: its account, which is one byte, and its pixels
 --     rosterLength q  the bytes of a roster section of q entries
+--     fileLength t q  the bytes of a file of t tiles and q entries
 use Prim.Native.Nat.{ℕ, _+_, _*_}
 
 abbrev pub countPlace : ℕ
@@ -28,3 +29,6 @@ entryLength = 1 + wordLength
 
 abbrev pub rosterLength : ℕ → ℕ
 rosterLength q = entriesPlace + entryLength * q
+
+abbrev pub fileLength : ℕ → ℕ → ℕ
+fileLength t q = wordsPlace + entriesPlace + wordLength * t + entryLength * q

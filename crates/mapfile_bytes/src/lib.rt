@@ -20,6 +20,9 @@ pub const ENTRIES_PLACE: usize = 1;
 // The bytes of an entry: its account, which is one byte, and its pixels.
 pub const ENTRY_LENGTH: usize = 1 + WORD_LENGTH;
 
+// The bytes of a file without tiles: its order, its tile count and its roster count.
+pub const BARE_LENGTH: usize = WORDS_PLACE + ENTRIES_PLACE;
+
 // A byte as a number of 32 bits.
 pub fn wide(x: u8) -> u32
     ensures { λ r. ⌜ r ≡ x ⌝ }

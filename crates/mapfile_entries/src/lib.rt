@@ -180,7 +180,7 @@ pub fn check(order: u32, tiles: usize, file: &[u8], section: &[u8]) -> u32
         return refusal::FILE_CUT_SHORT;
     }
     let entries = mapfile_bytes::long(mapfile_bytes::wide(section[0]));
-    let end = 1 + 5 * entries;
+    let end = mapfile_bytes::ENTRIES_PLACE + mapfile_bytes::ENTRY_LENGTH * entries;
     if section.len() < end {
         return refusal::FILE_CUT_SHORT;
     }

@@ -8,6 +8,7 @@ ghost use lib.Seq.{sets};
 ghost use Rattle.tile.specs.Tile.{highestOrder, highestAccount};
 ghost use Rattle.tile.specs.Slots.{tilesIn};
 ghost use Rattle.quadtree.specs.Valid.{Valid};
+ghost use Rattle.mapfile_bytes.specs.Layout.{wordLength, wordsPlace, rosterPlace, entryLength, rosterLength};
 ghost use Rattle.mapfile_roster.specs.Roster.{covered, rosterOf};
 ghost use Rattle.mapfile_roster.specs.Accounts.{SetOf};
 ghost use Rattle.mapfile_sections.specs.OneEntry.{entryOf};
@@ -22,7 +23,7 @@ fn low(w: u32) -> u8
 
 // A number into the 4 bytes from `at` on, high byte first.
 pub fn put(file: &mut [u8], at: usize, w: u32)
-    requires { ⌜ at + 4 ≤ length (now file) ⌝ }
+    requires { ⌜ at + wordLength ≤ length (now file) ⌝ }
     ensures { λ r. ⌜ now (file .exit) ≡ sets (now (file .entry)) at (wordBytes w) ⌝ }
 {
     file[at] = low(w >> 24);
@@ -31,17 +32,18 @@ pub fn put(file: &mut [u8], at: usize, w: u32)
     file[at + 3] = low(w);
 }
 
-// The words of the list into the bytes from 5 on.
+// The words of the list into their place.
 pub fn put_words(tiles: usize, slots: &[u32], file: &mut [u8])
-    requires { ⌜ (tiles ≤ length (now slots)) × (5 + 4 * tiles ≤ length (now file)) ⌝ }
-    ensures { λ r. ⌜ now (file .exit) ≡ sets (now (file .entry)) 5 (wordsBytes (take tiles (now (slots .entry)))) ⌝ }
+    requires { ⌜ (tiles ≤ length (now slots)) × (rosterPlace tiles ≤ length (now file)) ⌝ }
+    ensures { λ r. ⌜ now (file .exit) ≡ sets (now (file .entry)) wordsPlace
+        (wordsBytes (take tiles (now (slots .entry)))) ⌝ }
 {
     let mut i = 0;
-    let mut p = 5;
+    let mut p = mapfile_bytes::WORDS_PLACE;
     while i < tiles {
         put(file, p, slots[i]);
         i += 1;
-        p += 4;
+        p += mapfile_bytes::WORD_LENGTH;
     }
 }
 
@@ -102,8 +104,8 @@ fn pixels_of(
 
 // The entry of an account that covers pixels into the bytes from `p` on; answers where the next one goes.
 fn put_entry(file: &mut [u8], p: usize, account: u8, pixels: u32) -> usize
-    requires { ⌜ p + 5 * length (entryOf account pixels) ≤ length (now file) ⌝ }
-    ensures { λ r. ⌜ (r ≡ p + 5 * length (entryOf account pixels))
+    requires { ⌜ p + entryLength * length (entryOf account pixels) ≤ length (now file) ⌝ }
+    ensures { λ r. ⌜ (r ≡ p + entryLength * length (entryOf account pixels))
         × (now (file .exit) ≡ sets (now (file .entry)) p (entriesBytes (entryOf account pixels))) ⌝ }
 {
     if pixels == 0 {
@@ -111,14 +113,14 @@ fn put_entry(file: &mut [u8], p: usize, account: u8, pixels: u32) -> usize
     }
     file[p] = account;
     put(file, p + 1, pixels);
-    p + 5
+    p + mapfile_bytes::ENTRY_LENGTH
 }
 
 // The roster's entries, by rising account, into the bytes from `at` on. What counts the accounts is wider than an
 // account, so that it can pass the highest.
 fn put_entries(order: u32, tiles: usize, slots: &[u32], at: usize, file: &mut [u8])
     requires { ⌜ (order ≤ highestOrder) × (tiles ≤ length (now slots)) × Valid order (tilesIn tiles (now slots))
-        × (at + 5 * length (rosterOf (tilesIn tiles (now slots))) ≤ length (now file)) ⌝ }
+        × (at + entryLength * length (rosterOf (tilesIn tiles (now slots))) ≤ length (now file)) ⌝ }
     ensures { λ r. ⌜ now (file .exit) ≡ sets (now (file .entry)) at
         (entriesBytes (rosterOf (tilesIn tiles (now (slots .entry))))) ⌝ }
 {
@@ -136,10 +138,10 @@ fn put_entries(order: u32, tiles: usize, slots: &[u32], at: usize, file: &mut [u
 // The roster section into its part of a file: the count of its entries, and the entries behind it.
 pub fn put_roster(order: u32, tiles: usize, slots: &[u32], accounts: usize, section: &mut [u8])
     requires { ⌜ (order ≤ highestOrder) × (tiles ≤ length (now slots)) × Valid order (tilesIn tiles (now slots))
-        × (accounts ≡ length (rosterOf (tilesIn tiles (now slots)))) × (1 + 5 * accounts ≤ length (now section)) ⌝ }
+        × (accounts ≡ length (rosterOf (tilesIn tiles (now slots)))) × (rosterLength accounts ≤ length (now section)) ⌝ }
     ensures { λ r. ⌜ now (section .exit) ≡ sets (now (section .entry)) 0
         (rosterBytes (rosterOf (tilesIn tiles (now (slots .entry))))) ⌝ }
 {
     section[0] = accounts as u8;
-    put_entries(order, tiles, slots, 1, section);
+    put_entries(order, tiles, slots, mapfile_bytes::ENTRIES_PLACE, section);
 }

@@ -1,12 +1,13 @@
 // The writer of a map file.
 ghost use mathlib.Core.Path.{_≡_};
-ghost use Prim.Native.Nat.{_+_, _*_, _≤_};
+ghost use Prim.Native.Nat.{_≤_};
 ghost use lib.ListN.{length};
 ghost use lib.Seq.{sets};
 ghost use Rattle.refusal.specs.Checks.{Gives};
 ghost use Rattle.tile.specs.Tile.{highestOrder};
 ghost use Rattle.tile.specs.Slots.{tilesIn};
 ghost use Rattle.quadtree.specs.Valid.{Valid};
+ghost use Rattle.mapfile_bytes.specs.Layout.{fileLength};
 ghost use Rattle.mapfile_roster.specs.Roster.{rosterOf};
 ghost use Rattle.mapfile_write.specs.Writer.{fileOf, writeOf};
 
@@ -21,14 +22,14 @@ pub struct Written {
 fn put_file(order: u32, tiles: usize, slots: &[u32], accounts: usize, file: &mut [u8])
     requires { ⌜ (order ≤ highestOrder) × (tiles ≤ length (now slots)) × Valid order (tilesIn tiles (now slots))
         × (accounts ≡ length (rosterOf (tilesIn tiles (now slots))))
-        × (6 + 4 * tiles + 5 * accounts ≤ length (now file)) ⌝ }
+        × (fileLength tiles accounts ≤ length (now file)) ⌝ }
     ensures { λ r. ⌜ now (file .exit) ≡ sets (now (file .entry)) 0
         (fileOf order (tilesIn tiles (now (slots .entry)))) ⌝ }
 {
     file[0] = order as u8;
-    mapfile_sections::put(file, 1, tiles as u32);
+    mapfile_sections::put(file, mapfile_bytes::COUNT_PLACE, tiles as u32);
     mapfile_sections::put_words(tiles, slots, file);
-    let at = 5 + 4 * tiles;
+    let at = mapfile_bytes::WORDS_PLACE + mapfile_bytes::WORD_LENGTH * tiles;
     mapfile_sections::put_roster(order, tiles, slots, accounts, &mut file[at..]);
 }
 
@@ -41,7 +42,9 @@ pub fn write(order: u32, tiles: usize, slots: &[u32], file: &mut [u8]) -> Writte
         return Written { number, length: 0 };
     }
     let accounts = mapfile_sections::accounts(tiles, slots);
-    let length = 6 + 4 * tiles + 5 * accounts;
+    let length = mapfile_bytes::BARE_LENGTH
+        + mapfile_bytes::WORD_LENGTH * tiles
+        + mapfile_bytes::ENTRY_LENGTH * accounts;
     if file.len() < length {
         return Written {
             number: refusal::BYTES_TOO_FEW,
