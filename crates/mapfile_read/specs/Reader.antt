@@ -5,7 +5,8 @@
 --     fileOrder, fileCount, fileWords   the items of a file
 --     readOf bs slots           the offered call: the list goes to the slots, and the rest of them is 0
 --     readBed bs                the plain bed of an accepted file: by rows, wholly scanned
--- Not here: where the items stand (layout), the numbers in bytes (items, `wordAt`), the roster section (`rosterCheck`).
+-- Not here: where the items stand (mapfile_bytes, Layout), the numbers in bytes (mapfile_bytes, `wordAt`), the roster
+-- section (`rosterCheck`).
 use mathlib.Core.List.{List, [], _∷_, _++_, map}
 use Prim.Native.Nat.{ℕ, zero, suc, _+_, _-_, _^_}
 use lib.Dec.{leb}

@@ -2,7 +2,7 @@
 --     fileOf n ts             the file of the list ts of order n
 --     writeCheck ..           1, 2, 11 to 16, then 26
 --     writeOf n t slots file  the offered call: the bytes past the file's are not touched
--- Not here: numbers, words and entries as bytes (sections).
+-- Not here: numbers, words and entries as bytes (mapfile_sections).
 use mathlib.Core.List.{List, _∷_, _++_, map}
 use Prim.Native.Nat.{ℕ}
 use lib.Dec.{leb}

@@ -7,7 +7,7 @@
 --     wordLimit                   the words of tiles are below it
 --     wordOf t                    the word of the tile t
 --     tileOf w                    the tile of the word w
--- Not here: which tiles lie in a bed (quadtree, `Quadrant`), which words are refused (listcheck, `wordCheck`).
+-- Not here: which tiles lie in a bed (quadtree, `Quadrant`), which words are refused (list_check, `wordCheck`).
 use Prim.Native.Nat.{ℕ, _+_, _*_, _/_, _%_, _^_}
 
 pub record Tile : Type 0 where

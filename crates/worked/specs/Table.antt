@@ -1,5 +1,5 @@
 -- The starred lines of document 01's "Worked beds", as one table of the definitions. Each field is a line, in the
--- paper's order; all are computed by the checker (proofs/Computed.antt).
+-- paper's order; all are computed by the checker (proofs/StarredComputed.antt).
 use mathlib.Core.Path.{_≡_}
 use mathlib.Core.List.{List, [], _∷_, map}
 use Prim.Native.Nat.{ℕ}
