@@ -8,7 +8,7 @@ fn write_first(out: &[u8], length: usize) {
 }
 
 fn show(input: &[u8]) {
-    let mut out = [0u8; listing::LISTING_BYTES];
+    let mut out = [0u8; listing_whole::LISTING_BYTES];
     let listed = listing::list(input, &mut out);
     write_first(&out, listed.length);
 }
@@ -46,6 +46,6 @@ fn main() {
     fill(&mut large);
     show(&large);
     // order 6, one pixel too many
-    let full = [6u8; listing::INPUT_BYTES];
+    let full = [6u8; listing_whole::INPUT_BYTES];
     show(&full);
 }

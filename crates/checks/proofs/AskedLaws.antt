@@ -1,4 +1,5 @@
 -- Laws of the checks of what a call is handed besides its map.
+--     order-inside            1 where it passes; order-passed, what passes
 --     test-pointIn            the test of 31
 --     point-outside, -inside  31 by how it ends; point-passed, what passes
 --     block-passed            what passes 32; block-unaligned, block-inside, how its last test ends
@@ -16,7 +17,15 @@ use Rattle.tile.specs.Tile.{highestOrder}
 use Rattle.quadtree.specs.Raster.{Aligned, aligned}
 use Rattle.bed.specs.Bed.{blockIn}
 use Rattle.bed.proofs.BedLaws.{test-blockIn}
-use Rattle.checks.specs.Asked.{pointIn, pointCheck, blockCheck}
+use Rattle.checks.specs.Asked.{orderCheck, pointIn, pointCheck, blockCheck}
+
+pub order-inside : (n : ℕ) → n ≤ highestOrder → orderCheck n ≡ accepted
+unfolding orderCheck
+order-inside n h = must-on _ _ (test-leb n highestOrder) h
+
+pub order-passed : (n : ℕ) → orderCheck n ≡ accepted → n ≤ highestOrder
+unfolding orderCheck
+order-passed n e = must-inv (test-leb n highestOrder) (omega arith) e .0
 
 pub test-pointIn : (n c r : ℕ) → Test ((c < 2 ^ n) × (r < 2 ^ n)) (pointIn n c r)
 unfolding pointIn

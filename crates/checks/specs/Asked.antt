@@ -1,5 +1,6 @@
 -- The checks of what a call is handed besides its map, one by one (document 01, "Refusals by the place of the check");
 -- the calls compose them; `blockIn` and `isAccount` stand with the plain bed. Definitions only.
+--     orderCheck n       1, the order of a call that is handed no map
 --     pointIn n c r      column c and row r are below 2 ^ n
 --     pointCheck n c r   31, the point asked
 --     blockCheck n c k   32, the block asked
@@ -7,10 +8,14 @@
 --     givenCheck a       24, the account given
 use mathlib.Core.Bool.{Bool, _&&_}
 use Prim.Native.Nat.{ℕ, _^_}
-use lib.Dec.{ltb}
-use Rattle.refusal.specs.Refusal.{accepted, accountTooLarge, pointOutside, blockInvalid, askerInvalid}
+use lib.Dec.{leb, ltb}
+use Rattle.refusal.specs.Refusal.{accepted, orderTooLarge, accountTooLarge, pointOutside, blockInvalid, askerInvalid}
 use Rattle.refusal.specs.Checks.{must}
+use Rattle.tile.specs.Tile.{highestOrder}
 use Rattle.bed.specs.Bed.{isAccount, blockIn}
+
+unfoldable pub orderCheck : ℕ → ℕ
+orderCheck n = must (leb n highestOrder) orderTooLarge accepted
 
 unfoldable pub pointIn : ℕ → ℕ → ℕ → Bool
 pointIn n c r = ltb c (2 ^ n) && ltb r (2 ^ n)

@@ -2,7 +2,17 @@
 ghost use mathlib.Core.Path.{_≡_};
 ghost use Prim.Native.Nat.{_≤_};
 ghost use Rattle.tile.specs.Tile.{highestOrder};
-ghost use Rattle.checks.specs.Asked.{pointCheck, blockCheck, askerCheck, givenCheck};
+ghost use Rattle.checks.specs.Asked.{orderCheck, pointCheck, blockCheck, askerCheck, givenCheck};
+
+// 1: the order is one of a bed. A call that is handed a map has it among the checks of the list.
+pub fn order(order: u32) -> u32
+    ensures { λ r. ⌜ r ≡ orderCheck order ⌝ }
+{
+    if bed::Scan::HIGHEST_ORDER < order {
+        return refusal::ORDER_TOO_LARGE;
+    }
+    refusal::ACCEPTED
+}
 
 // 31: the point asked lies on the bed.
 pub fn point(order: u32, column: u32, row: u32) -> u32

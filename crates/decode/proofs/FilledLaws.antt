@@ -1,6 +1,6 @@
--- Runs of bytes, rectangles of them and tiles, each put together from the one before.
+-- Spans of bytes, rectangles of them and tiles, each put together from the one before.
 --     side-word                  a side in a machine word
---     run-none, run-more         an empty run, and one with a byte more
+--     span-none, span-more         an empty span, and one with a byte more
 --     rectangle-none, -more      an empty rectangle, and one with a row more
 --     RowFits, row-fits          a row of a square lies in the raster, and its bytes have small positions
 --     Measured, measured         what is taken from a tile: the side of the bed, and the column, row and side of its square
@@ -22,16 +22,16 @@ use Rattle.quadtree.specs.Raster.{Covers, Quadrant}
 use Rattle.quadtree.proofs.Alignment.{cmp, below, same, above}
 use Rattle.bed.specs.Places.{placeOf}
 use Rattle.bed.proofs.PlaceLaws.{area-sides}
-use Rattle.decode.specs.Filled.{RunFilled, Within, RectangleFilled, TileFilled}
+use Rattle.decode.specs.Filled.{SpanFilled, Within, RectangleFilled, TileFilled}
 
 pub side-word : (k : ℕ) → k ≤ highestOrder → 1 * 2 ^ k % 2 ^ 64 ≡ 2 ^ k
 side-word k h = let l : 2 ^ k ≤ 2 ^ highestOrder = pow-le-pow-right (omega arith) h in omega arith
 
-pub run-none : (xs : List ℕ) (from a : ℕ) → RunFilled xs from from a xs
-run-none xs from a = record { long = refl; inside = λ p l h. absurd (omega arith); outside = λ p no. refl }
+pub span-none : (xs : List ℕ) (from a : ℕ) → SpanFilled xs from from a xs
+span-none xs from a = record { long = refl; inside = λ p l h. absurd (omega arith); outside = λ p no. refl }
 
-pub run-more : {xs ys : List ℕ} {from p a : ℕ} → from ≤ p → p < length xs → RunFilled xs from p a ys → RunFilled xs from (p + 1) a (set ys p a)
-run-more {xs} {ys} {from} {p} {a} l h r = record {
+pub span-more : {xs ys : List ℕ} {from p a : ℕ} → from ≤ p → p < length xs → SpanFilled xs from p a ys → SpanFilled xs from (p + 1) a (set ys p a)
+span-more {xs} {ys} {from} {p} {a} l h r = record {
   long = length-set ys p a ∙ r .long;
   inside = λ q ql qh. elim (decLt q p) [
     | yes b ↦ getD-set-other ys p q a 0 (λ e. omega arith) ∙ r .inside q ql b
@@ -53,7 +53,7 @@ module _ {width column row columns a : ℕ} {xs : List ℕ} where
   rectangle-none = record { long = refl; inside = λ c r h w. absurd (omega (arith, w .north, w .south)); outside = λ c r h out. refl }
 
   pub rectangle-more : {rows : ℕ} {ys zs : List ℕ} → column + columns ≤ width → RectangleFilled width xs column row columns rows a ys
-      → RunFilled ys ((row + rows) * width + column) ((row + rows) * width + column + columns) a zs → RectangleFilled width xs column row columns (rows + 1) a zs
+      → SpanFilled ys ((row + rows) * width + column) ((row + rows) * width + column + columns) a zs → RectangleFilled width xs column row columns (rows + 1) a zs
   rectangle-more {rows} {ys} {zs} room p q = record {
     long = q .long ∙ p .long;
     inside = λ c r h w. elim (decLt r (row + rows)) [

@@ -23,7 +23,7 @@ use Rattle.quadtree.proofs.ValidLaws.{valid-tiling, tiling-chain}
 use Rattle.bed.specs.declared.Kind.the-variants.{Rows}
 use Rattle.bed.specs.Places.{placeOf, rows}
 use Rattle.bed.proofs.PlaceLaws.{placeOf-lt, rows-unique}
-use Rattle.decode.specs.Filled.{RunFilled, TileFilled}
+use Rattle.decode.specs.Filled.{SpanFilled, TileFilled}
 
 -- the bytes show f before lo and 0 from there on, and the tiles left tile f from lo on
 pub record Filling (n : ℕ) (f : ℕ → ℕ) (left : List Tile) (bytes : List ℕ) : Type 0 where
@@ -33,7 +33,7 @@ pub record Filling (n : ℕ) (f : ℕ → ℕ) (left : List Tile) (bytes : List 
   pub clear : (z : ℕ) → z < 4 ^ n → lo ≤ z → getD bytes (placeOf Rows n z) 0 ≡ 0
   pub long : length bytes ≡ 4 ^ n
 
-pub filling-start : {n : ℕ} {ts : List Tile} {xs ys : List ℕ} → Valid n ts → length xs ≡ 4 ^ n → RunFilled xs 0 (length xs) 0 ys → Filling n (accountAt ts) ts ys
+pub filling-start : {n : ℕ} {ts : List Tile} {xs ys : List ℕ} → Valid n ts → length xs ≡ 4 ^ n → SpanFilled xs 0 (length xs) 0 ys → Filling n (accountAt ts) ts ys
 filling-start {n} v e r = record {
   lo = 0;
   tiling = valid-tiling v;

@@ -1,5 +1,5 @@
 -- Laws of decoding.
---     FilledLaws    runs of bytes, rectangles of them and tiles, each put together from the one before
+--     FilledLaws    spans of bytes, rectangles of them and tiles, each put together from the one before
 --     FillingLaws   the tiles of a list in turn, and then the whole raster
 --     DecodeLaws    what the offered call gives, by how its checks end
 pub mod FilledLaws

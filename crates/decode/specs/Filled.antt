@@ -1,6 +1,6 @@
 -- Inner: what the parts of decoding change of the bytes of a raster: ys is xs with the account a on a part of it.
 -- Definitions only.
---     RunFilled xs from to a ys                             on the bytes from `from` up to `to`
+--     SpanFilled xs from to a ys                             on the bytes from `from` up to `to`
 --     RectangleFilled width xs column row columns rows a ys  on a rectangle of a raster whose rows have `width` bytes
 --     TileFilled n t xs ys                                  on the tile t of a raster of order n, by rows, with the
 --                          account of t
@@ -13,7 +13,7 @@ use Rattle.quadtree.specs.Raster.{Covers}
 use Rattle.bed.specs.declared.Kind.the-variants.{Rows}
 use Rattle.bed.specs.Places.{placeOf}
 
-pub record RunFilled (xs : List ℕ) (from to a : ℕ) (ys : List ℕ) : Type 0 where
+pub record SpanFilled (xs : List ℕ) (from to a : ℕ) (ys : List ℕ) : Type 0 where
   pub long : length ys ≡ length xs
   pub inside : (p : ℕ) → from ≤ p → p < to → getD ys p 0 ≡ a
   pub outside : (p : ℕ) → (from ≤ p → p < to → ⊥) → getD ys p 0 ≡ getD xs p 0

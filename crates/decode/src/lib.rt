@@ -1,4 +1,4 @@
-// Decoding a map to the accounts of its pixels, row after row: tile by tile, and each tile by the runs of its rows.
+// Decoding a map to the accounts of its pixels, row after row: tile by tile, and each tile by the spans of its rows.
 ghost use mathlib.Core.Path.{_≡_};
 ghost use Prim.Native.Nat.{ℕ, _+_, _*_, _^_, _≤_};
 ghost use lib.ListN.{length};
@@ -9,7 +9,7 @@ ghost use Rattle.quadtree.specs.Raster.{accountAt, Quadrant};
 ghost use Rattle.quadtree.specs.Valid.{Valid};
 ghost use Rattle.bed.specs.Places.{rows};
 ghost use Rattle.decode.specs.Decode.{decodeOf};
-ghost use Rattle.decode.specs.Filled.{RunFilled, RectangleFilled, TileFilled};
+ghost use Rattle.decode.specs.Filled.{SpanFilled, RectangleFilled, TileFilled};
 
 fn wide(x: u32) -> usize
     ensures { λ r. ⌜ r ≡ x ⌝ }
@@ -26,9 +26,9 @@ fn side(size: u32) -> usize
 }
 
 // Sets the bytes from `from` up to `to`.
-fn run(raster: &mut [u8], from: usize, to: usize, account: u8)
+fn span(raster: &mut [u8], from: usize, to: usize, account: u8)
     requires { ⌜ (from ≤ to) × (to ≤ length (now raster)) ⌝ }
-    ensures { λ r. ⌜ RunFilled (now (raster .entry)) from to account (now (raster .exit)) ⌝ }
+    ensures { λ r. ⌜ SpanFilled (now (raster .entry)) from to account (now (raster .exit)) ⌝ }
 {
     let mut p = from;
     while p < to {
@@ -46,7 +46,7 @@ fn square(raster: &mut [u8], width: usize, column: usize, row: usize, side: usiz
     let mut y = 0;
     while y < side {
         let from = (row + y) * width + column;
-        run(raster, from, from + side, account);
+        span(raster, from, from + side, account);
         y += 1;
     }
 }
@@ -71,7 +71,7 @@ fn fill(order: u32, tiles: usize, slots: &[u32], raster: &mut [u8])
     ensures { λ r. ⌜ now (raster .exit) ≡ rows order (accountAt (tilesIn tiles (now (slots .entry)))) ⌝ }
 {
     let end = raster.len();
-    run(raster, 0, end, 0);
+    span(raster, 0, end, 0);
     let mut i = 0;
     while i < tiles {
         paint(order, slots[i], raster);

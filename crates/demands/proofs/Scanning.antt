@@ -27,7 +27,7 @@ use Rattle.bed.proofs.PlaceLaws.{placeOf-pixelAt, pixelAt-placeOf}
 use Rattle.bed.proofs.BedLaws.{Agree, Good, put, put-good, pixelCheck-passed, FedAlike, feedPixels-alike}
 use Rattle.scan.specs.FreshScan.{freshOf}
 use Rattle.demands.specs.Calls.{Answer, State, step, plainStep, plainFed, feed}
-use Rattle.demands.specs.Demands.{freshState, afterFeeds, taken, answered, scanRaster, scanBed}
+use Rattle.demands.specs.Demands.{freshState, afterFeeds, taken, countsAnswered, scanRaster, scanBed}
 use Rattle.demands.proofs.Kept.{keptBy, Kept}
 use Rattle.demands.proofs.UnscannedAlike.{none-unscanned}
 use Rattle.demands.proofs.CallSteps.{Agrees, fresh-kept, step-agrees}
@@ -146,12 +146,12 @@ module _ (k : Kind) (n : ℕ) where
   afterFeeds-scanned {m} {t} px (bytes ∷ feeds) w = feeds-more t px bytes feeds (afterFeeds-scanned (px ++ take (step t (feed bytes) .answer .taken) bytes) feeds (feed-scanned px bytes w))
 
   counted-more : (t : State) (bytes : List ℕ) (feeds : List (List ℕ)) → step t (feed bytes) .answer .taken ≡ length (take (step t (feed bytes) .answer .taken) bytes) →
-      answered (step t (feed bytes) .state) feeds ≡ length (taken (step t (feed bytes) .state) feeds) → answered t (bytes ∷ feeds) ≡ length (taken t (bytes ∷ feeds))
-  unfolding answered taken
+      countsAnswered (step t (feed bytes) .state) feeds ≡ length (taken (step t (feed bytes) .state) feeds) → countsAnswered t (bytes ∷ feeds) ≡ length (taken t (bytes ∷ feeds))
+  unfolding countsAnswered taken
   counted-more t bytes feeds e w = omega (arith, e, w, length-append (take (step t (feed bytes) .answer .taken) bytes) (taken (step t (feed bytes) .state) feeds))
 
-  afterFeeds-counted : {m : ℕ} {t : State} (px : List ℕ) (feeds : List (List ℕ)) → Kept m t (scanBed k n px) → answered t feeds ≡ length (taken t feeds)
-  unfolding answered taken
+  afterFeeds-counted : {m : ℕ} {t : State} (px : List ℕ) (feeds : List (List ℕ)) → Kept m t (scanBed k n px) → countsAnswered t feeds ≡ length (taken t feeds)
+  unfolding countsAnswered taken
   afterFeeds-counted px [] w = refl
   afterFeeds-counted {m} {t} px (bytes ∷ feeds) w = counted-more t bytes feeds (feed-counted px bytes w) (afterFeeds-counted (px ++ take (step t (feed bytes) .answer .taken) bytes) feeds (feed-scanned px bytes w))
 
@@ -166,5 +166,5 @@ module _ (k : Kind) (n : ℕ) where
       Kept (length slots) (afterFeeds (freshState k n slots) feeds) (scanBed k n (taken (freshState k n slots) feeds))
   scan-kept slots feeds h = afterFeeds-scanned [] feeds (fresh-scanned slots h)
 
-  pub scan-counted : (slots : List ℕ) (feeds : List (List ℕ)) → n ≤ highestOrder → answered (freshState k n slots) feeds ≡ length (taken (freshState k n slots) feeds)
+  pub scan-counted : (slots : List ℕ) (feeds : List (List ℕ)) → n ≤ highestOrder → countsAnswered (freshState k n slots) feeds ≡ length (taken (freshState k n slots) feeds)
   scan-counted slots feeds h = afterFeeds-counted [] feeds (fresh-scanned slots h)

@@ -9,7 +9,7 @@ use Rattle.demands.proofs.CallLists.{ran-begun, same-lists}
 
 pub demand-two : DemandTwo
 unfolding DemandTwo
-demand-two k n slots feeds h = record { counted = scan-counted k n slots feeds h; left = kept-left (scan-kept k n slots feeds h) }
+demand-two k n slots feeds h = record { adds-up = scan-counted k n slots feeds h; left = kept-left (scan-kept k n slots feeds h) }
 
 pub demand-three : DemandThree
 unfolding DemandThree

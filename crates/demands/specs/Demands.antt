@@ -58,9 +58,9 @@ unfoldable pub taken : State → List (List ℕ) → List ℕ
 taken s [] = []
 taken s (bytes ∷ feeds) = take (fed s bytes .answer .taken) bytes ++ taken (fed s bytes .state) feeds
 
-unfoldable pub answered : State → List (List ℕ) → ℕ
-answered s [] = 0
-answered s (bytes ∷ feeds) = fed s bytes .answer .taken + answered (fed s bytes .state) feeds
+unfoldable pub countsAnswered : State → List (List ℕ) → ℕ
+countsAnswered s [] = 0
+countsAnswered s (bytes ∷ feeds) = fed s bytes .answer .taken + countsAnswered (fed s bytes .state) feeds
 
 abbrev pub freshState : Kind → ℕ → List ℕ → State
 freshState k n slots = let r = freshOf k n slots in record { scan = r .answer .scan; slots = r .storage }
@@ -75,14 +75,14 @@ scanBed k n pixels = bedOf k n (length pixels) (scanRaster k n pixels)
 -- `take` stops at the end of the bytes: the counts answered must add up to the pixels, lest a feed answer more than it
 -- was handed
 pub record Demand2 (k : Kind) (n m : ℕ) (pixels : List ℕ) (count : ℕ) (s : State) : Type 0 where
-  pub counted : count ≡ length pixels
+  pub adds-up : count ≡ length pixels
   pub left : Left m s (scanBed k n pixels)
 
 -- demand 2, for every kind, order, content of the slots and way of cutting the pixels into feeds
 unfoldable pub DemandTwo : Type 0
 DemandTwo = (k : Kind) (n : ℕ) (slots : List ℕ) (feeds : List (List ℕ)) → n ≤ highestOrder →
     let s : State = freshState k n slots in
-    Demand2 k n (length slots) (taken s feeds) (answered s feeds) (afterFeeds s feeds)
+    Demand2 k n (length slots) (taken s feeds) (countsAnswered s feeds) (afterFeeds s feeds)
 
 pub record Demand3 (s₁ s₂ : State) (b₁ b₂ : Bed) (cs₁ cs₂ : List Call) : Type 0 where
   pub answers₁ : answers s₁ cs₁ ≡ plainAnswers (length (s₁ .slots)) b₁ cs₁

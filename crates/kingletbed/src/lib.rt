@@ -3,7 +3,9 @@
 ghost use mathlib.Core.Path.{_≡_};
 ghost use Prim.Native.Nat.{ℕ};
 ghost use Rattle.refusal.specs.Checks.{Gives};
+ghost use Rattle.tile.specs.Tile.{tileOf};
 ghost use Rattle.bed.specs.Places.{scanOf};
+ghost use Rattle.points.specs.Points.{extentOf, numberOf, aroundOf, pointOf};
 ghost use Rattle.list_check.specs.ListCheck.{listCheck};
 ghost use Rattle.scan.specs.FreshScan.{freshOf};
 ghost use Rattle.scan.specs.Feed.{feedOf};
@@ -25,6 +27,10 @@ use lookup::Found;
 use mapfile_read::Reading;
 use mapfile_write::Written;
 use part::Part;
+use points::Around;
+use points::Extent;
+use points::Numbered;
+use points::Point;
 use rights::Right;
 
 // A fresh scan's answer, with the record's four numbers.
@@ -64,6 +70,55 @@ fn kind_number(kind: Kind) -> u32
         Kind::Rows => 0,
         Kind::Morton => 1,
     }
+}
+
+#[no_mangle]
+pub extern "C" fn kb_extent(order: u32) -> Extent
+    ensures { λ r. ⌜ r ≡ extentOf order ⌝ }
+{
+    points::measure(order)
+}
+
+#[no_mangle]
+pub extern "C" fn kb_morton(order: u32, column: u32, row: u32) -> Numbered
+    ensures { λ r. ⌜ r ≡ numberOf order column row ⌝ }
+{
+    points::number_at(order, column, row)
+}
+
+#[no_mangle]
+pub extern "C" fn kb_block(order: u32, column: u32, row: u32, size: u32) -> Around
+    ensures { λ r. ⌜ r ≡ aroundOf order column row size ⌝ }
+{
+    points::block_around(order, column, row, size)
+}
+
+#[no_mangle]
+pub extern "C" fn kb_point(order: u32, morton: u32) -> Point
+    ensures { λ r. ⌜ r ≡ pointOf order morton ⌝ }
+{
+    points::point_of(order, morton)
+}
+
+#[no_mangle]
+pub extern "C" fn kb_tile_corner(word: u32) -> u32
+    ensures { λ r. ⌜ r ≡ tileOf word .corner ⌝ }
+{
+    tile::corner(word)
+}
+
+#[no_mangle]
+pub extern "C" fn kb_tile_size(word: u32) -> u32
+    ensures { λ r. ⌜ r ≡ tileOf word .size ⌝ }
+{
+    tile::size(word)
+}
+
+#[no_mangle]
+pub extern "C" fn kb_tile_account(word: u32) -> u8
+    ensures { λ r. ⌜ r ≡ tileOf word .account ⌝ }
+{
+    tile::account(word)
 }
 
 #[no_mangle]

@@ -13,20 +13,20 @@ use Rattle.refusal.specs.Refusal.{accepted, bytesTooFew}
 use Rattle.refusal.specs.Checks.{must, unless}
 use Rattle.refusal.proofs.CheckLaws.{must-on, must-off, unless-on}
 use Rattle.text.specs.PutAt.{PutAt}
-use Rattle.listing.specs.Listing.{answered, listedIn}
+use Rattle.listing.specs.Listing.{listedTo, listedIn}
 
-pub listedIn-few : {bytes : List ℕ} {none some : List ℕ} {end : ℕ} (out : List ℕ) → PutAt bytes 0 none end some → length out < end → answered bytesTooFew 0 out ≡ listedIn bytes out
+pub listedIn-few : {bytes : List ℕ} {none some : List ℕ} {end : ℕ} (out : List ℕ) → PutAt bytes 0 none end some → length out < end → listedTo bytesTooFew 0 out ≡ listedIn bytes out
 unfolding listedIn unless
 listedIn-few {bytes} out w h =
     let e : must (leb (length bytes) (length out)) bytesTooFew accepted ≡ bytesTooFew = must-off bytesTooFew accepted (test-leb (length bytes) (length out)) (λ g. omega (arith, w .stop)) in
     rw e
 
-pub listedIn-room : (bytes out : List ℕ) → length bytes ≤ length out → listedIn bytes out ≡ answered accepted (length bytes) (bytes ++ drop (length bytes) out)
+pub listedIn-room : (bytes out : List ℕ) → length bytes ≤ length out → listedIn bytes out ≡ listedTo accepted (length bytes) (bytes ++ drop (length bytes) out)
 unfolding listedIn
 listedIn-room bytes out h = unless-on _ _ _ (must-on bytesTooFew accepted (test-leb (length bytes) (length out)) h)
 
 pub listedIn-fits : {bytes : List ℕ} {none some : List ℕ} {end : ℕ} {out : List ℕ} {stop : ℕ} {new : List ℕ} → PutAt bytes 0 none end some → PutAt bytes 0 out stop new → end ≤ length out →
-    answered accepted end new ≡ listedIn bytes out
+    listedTo accepted end new ≡ listedIn bytes out
 listedIn-fits {bytes} {end = end} {out = out} {stop = stop} {new = new} v w h =
     let e : end ≡ length bytes = omega (arith, v .stop) in
     let f : stop ≡ length bytes = omega (arith, w .stop) in

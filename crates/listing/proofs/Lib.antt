@@ -2,8 +2,6 @@
 --     LineLaws      laws of the lines of tiles, and of lines put into a lent buffer
 --     LentLaws      laws of listings in the bytes lent
 --     ScannedLaws   what a fresh row scan, fed once, leaves
---     Bounds        the two numbers of the program bedlist
 pub mod LineLaws
 pub mod LentLaws
 pub mod ScannedLaws
-pub mod Bounds

@@ -5,20 +5,14 @@
 --     listedOrder               the highest order that is listed
 --     listedSlots               the slots that are lent
 --     listing input             the listing of an input: an order, then account bytes by rows
---     answered number end out   a listing's answer, with what the bytes lent for it hold afterwards
+--     listedTo number end out   a listing's answer, with what the bytes lent for it hold afterwards
 --     listedIn bytes out        a listing of these bytes in the bytes lent, of which those past it are not touched
 --     listOf input out          the offered call
--- and for the program:
---     inputBytes                bedlist reads so much of its input: more changes no listing (law `listing-read`)
---     listingBytes              bedlist lends so many bytes: every listing fits (law `listing-fits`)
---     Whole read out end new    every input of which `read` is read has a listing of length `end`, which is accepted
---                               and
---                               leaves `new` in the bytes lent `out`
-use mathlib.Core.Path.{_≡_}
+-- Not here: how much of an input a program reads (listing_whole, `Whole`).
 use mathlib.Core.List.{List, [], _∷_, _++_}
-use Prim.Native.Nat.{ℕ, _+_, _^_, _≤_}
+use Prim.Native.Nat.{ℕ}
 use lib.Dec.{leb}
-use lib.ListN.{length, take, drop, replicate}
+use lib.ListN.{length, drop, replicate}
 use Rattle.basics.specs.Choice.{if}
 use Rattle.refusal.specs.Refusal.{accepted, orderTooLarge, bytesTooFew, fileCutShort}
 use Rattle.refusal.specs.Checks.{must, unless, After}
@@ -67,8 +61,8 @@ abbrev pub listedSlots : ℕ
 listedSlots = 4096
 
 -- what a fresh row scan of order n, fed the accounts, answers and leaves in the slots
-abbrev pub scanned : ℕ → List ℕ → After Fed
-scanned n accounts = let r = freshOf Rows n (replicate listedSlots 0) in feedOf (r .answer .scan) (r .storage) accounts
+abbrev pub rowFed : ℕ → List ℕ → After Fed
+rowFed n accounts = let r = freshOf Rows n (replicate listedSlots 0) in feedOf (r .answer .scan) (r .storage) accounts
 
 unfoldable pub fedListing : After Fed → List ℕ
 fedListing r =
@@ -76,27 +70,16 @@ fedListing r =
 
 unfoldable pub listing : List ℕ → List ℕ
 listing [] = stopLine fileCutShort 0
-listing (n ∷ accounts) = if (leb n listedOrder) (fedListing (scanned n accounts)) (stopLine orderTooLarge 0)
+listing (n ∷ accounts) = if (leb n listedOrder) (fedListing (rowFed n accounts)) (stopLine orderTooLarge 0)
 
-abbrev pub answered : ℕ → ℕ → List ℕ → After Listed
-answered number end out = record { answer = record { number = number; length = end }; storage = out }
+abbrev pub listedTo : ℕ → ℕ → List ℕ → After Listed
+listedTo number end out = record { answer = record { number = number; length = end }; storage = out }
 
 unfoldable pub listedIn : List ℕ → List ℕ → After Listed
 listedIn bytes out =
     unless (must (leb (length bytes) (length out)) bytesTooFew accepted)
-    (λ number. answered number 0 out)
-    (answered accepted (length bytes) (bytes ++ drop (length bytes) out))
+    (λ number. listedTo number 0 out)
+    (listedTo accepted (length bytes) (bytes ++ drop (length bytes) out))
 
 abbrev pub listOf : List ℕ → List ℕ → After Listed
 listOf input out = listedIn (listing input) out
-
--- an order, the pixels of the highest order, and one too many
-abbrev pub inputBytes : ℕ
-inputBytes = 1 + 4 ^ listedOrder + 1
-
-abbrev pub listingBytes : ℕ
-listingBytes = 65536
-
-pub record Whole (read out : List ℕ) (end : ℕ) (new : List ℕ) : Type 0 where
-  pub fits : end ≤ length new
-  pub lists : (input : List ℕ) → take inputBytes input ≡ read → answered accepted end new ≡ listOf input out

@@ -1,14 +1,14 @@
-// The listing of a scanned bed as text. As in crate `text`, what does not fit is counted, so that one run counts the
+// The listing of a scanned bed as text. As in crate `text`, what does not fit is counted, so that one pass counts the
 // bytes and a second puts them.
 ghost use Prim.Native.Nat.{_+_, _*_, _<_, _≤_};
-ghost use lib.ListN.{length, take};
+ghost use lib.ListN.{length};
 ghost use Rattle.refusal.specs.Checks.{Gives};
 ghost use Rattle.tile.specs.Tile.{tileOf};
 ghost use Rattle.tile.specs.Slots.{tilesIn};
 ghost use Rattle.text.specs.PutAt.{PutAt, countLimit};
 ghost use Rattle.decimal.specs.Lines.{tripleMost};
 ghost use Rattle.listing.specs.Listing.{tileLine, tileLines, stopLine, scanLines, listedSlots};
-ghost use Rattle.listing.specs.Listing.{listedIn, listOf, inputBytes, Whole};
+ghost use Rattle.listing.specs.Listing.{listedIn, listOf};
 
 // The bytes written, with the number 26 where the listing takes more than were lent.
 pub struct Listed {
@@ -20,13 +20,7 @@ pub struct Listed {
 const LISTED_ORDER: u32 = 6;
 
 // A bed of that order has so many pixels, and at most so many tiles.
-const LISTED_SLOTS: usize = 4096;
-
-// An order, the pixels and one too many: more of an input changes no listing.
-pub const INPUT_BYTES: usize = 1 + LISTED_SLOTS + 1;
-
-// Every listing fits so many bytes.
-pub const LISTING_BYTES: usize = 65536;
+pub const LISTED_SLOTS: usize = 4096;
 
 // Puts the line of the tile of a word.
 fn put_word(out: &mut [u8], at: usize, word: u32) -> usize
@@ -150,15 +144,4 @@ pub fn list(input: &[u8], out: &mut [u8]) -> Listed
         fed.taken,
         out,
     )
-}
-
-// What bedlist does between reading and writing: `count` bytes were read, the whole input or its first INPUT_BYTES.
-// Writes the listing of the whole input, which fits, and answers its length.
-pub fn list_whole(read: &[u8; INPUT_BYTES], count: usize, out: &mut [u8; LISTING_BYTES]) -> usize
-    requires { ⌜ count ≤ inputBytes ⌝ }
-    ensures { λ r. ⌜ Whole (take count (now (read .entry))) (now (out .entry)) r (now (out .exit)) ⌝ }
-{
-    let bytes: &[u8] = read;
-    let listed = list(&bytes[..count], out);
-    listed.length
 }

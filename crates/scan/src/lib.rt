@@ -47,18 +47,18 @@ pub fn feed(scan: bed::Scan, slots: &mut [u32], accounts: &[u8]) -> Fed
             scan,
         };
     }
-    let run = scan_feed::feed_all(scan, slots, accounts);
-    let front = run.front;
-    let back = run.back;
+    let fed = scan_feed::feed_all(scan, slots, accounts);
+    let front = fed.front;
+    let back = fed.back;
     scan_gap::close(slots, front, back);
     let kind = scan.kind;
     Fed {
-        number: run.number,
-        taken: run.taken,
+        number: fed.number,
+        taken: fed.taken,
         scan: bed::Scan {
             kind,
             order: scan.order,
-            pixels: run.pixels,
+            pixels: fed.pixels,
             tiles: front + (slots.len() - back),
         },
     }

@@ -2,7 +2,7 @@
 --     countLimit                      places and counts are below it
 --     PutAt bytes at old end new    putting the bytes from the place `at` on made the buffer `new` of `old`, and `end`
 --                                     is the place behind them
--- Of a buffer that ends before `end` nothing but its length is known: such a run counts the bytes.
+-- Of a buffer that ends before `end` nothing but its length is known: such a pass counts the bytes.
 use mathlib.Core.Path.{_≡_}
 use mathlib.Core.List.{List, _++_}
 use Prim.Native.Nat.{ℕ, _+_, _^_, _≤_}

@@ -6,7 +6,9 @@ use Rattle.claim.proofs.claim_block.Statement.{statement}
 use Rattle.claim.proofs.claim_block.Tie as tie
 
 -- what is known once the claim is planned
-known : (c : tie.After-plan) → let a = c .before .before .before .args in Known (a .order) (a .tiles) (a .slots .now) (a .corner) (a .size) (a .account) (c .plan .result)
+known : (c : tie.After-plan) →
+    let a = c .before .before .before .args in
+    Known (a .order) (a .tiles) (a .slots .now) (a .corner) (a .size) (a .account) (c .plan .result)
 known c = record { room = c .before .before .before .pre .0; claimable = c .before .before .before .pre .1; planned = c .plan .ensures }
 
 returns : tie.Need-returns

@@ -31,7 +31,9 @@ returns : tie.Need-returns Inv-loop μ-loop
 returns c = stands-merges (c .before .before .loop .inv) (told-false (c .before .beside .ensures) (c .if1 .left))
 
 -- what is known in a turn
-turn : (c : tie.After-area Inv-loop μ-loop) → Turn (length (map tileOf (c .before .before .before .before .before .args .list .now))) (c .before .before .before .loop .from) (c .before .before .before .loop .to) (c .before .before .before .loop .c) (c .before .before .before .loop .k) (c .area .result)
+turn : (c : tie.After-area Inv-loop μ-loop) →
+    let l = c .before .before .before .loop in
+    Turn (length (map tileOf (c .before .before .before .before .before .args .list .now))) (l .from) (l .to) (l .c) (l .k) (c .area .result)
 turn c =
     let l = c .before .before .before .loop in
     let p = c .before .before .before .before .before .pre in

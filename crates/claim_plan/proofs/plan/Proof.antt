@@ -9,7 +9,8 @@ use Rattle.claim_plan.proofs.plan.Statement.{statement}
 use Rattle.claim_plan.proofs.plan.Tie as tie
 
 -- the numbers of the change
-sums : (c : tie.After-count-pieces) → Sums (c .before .before .before .before .before .args .tiles) (c .count-pieces .result) (c .before .before .find-change .result)
+sums : (c : tie.After-count-pieces) →
+    Sums (c .before .before .before .before .before .args .tiles) (c .count-pieces .result) (c .before .before .find-change .result)
 unfolding tilesIn
 sums c =
     let s = c .before .before .before .before .before in

@@ -13,13 +13,18 @@ use Rattle.claim_store.proofs.write_pieces.Tie as tie
 
 abbrev Inv-loop : tie.InvT-loop
 Inv-loop slots₀ change count account corner size left₀ right₀ d₀ s₀ slots left right d s =
-    Putting (take (change .lo) slots₀ ++ (map wordOf (pieces (change .size) (change .corner) account (change .owner) (change .top - change .size) (change .first)) ++ drop (change .lo + count) slots₀)) slots left right (change .size) (change .corner) account (change .owner) s d × (length slots ≡ length slots₀)
+    let pieced = pieces (change .size) (change .corner) account (change .owner) (change .top - change .size) (change .first) in
+    Putting (take (change .lo) slots₀ ++ (map wordOf pieced ++ drop (change .lo + count) slots₀))
+    slots left right (change .size) (change .corner) account (change .owner) s d × (length slots ≡ length slots₀)
 
 abbrev μ-loop : tie.MeasureT-loop
 μ-loop slots₀ change count account corner size left₀ right₀ d₀ s₀ slots left right d s = s - change .size
 
 -- what is known at one level
-turn : (c : tie.After-area Inv-loop μ-loop) → let l = c .before .before .loop in let a = c .before .before .before .before .before .args in Turned (length (l .slots)) (l .left) (a .change .size) (a .change .corner) (a .account) (a .change .owner) (l .s) (l .d) (c .area .result)
+turn : (c : tie.After-area Inv-loop μ-loop) →
+    let l = c .before .before .loop in
+    let a = c .before .before .before .before .before .args in
+    Turned (length (l .slots)) (l .left) (a .change .size) (a .change .corner) (a .account) (a .change .owner) (l .s) (l .d) (c .area .result)
 turn c = level (c .before .before .loop .inv .0) (omega arith) (c .area .ensures)
 
 loop-holds : tie.Need-loop-holds Inv-loop μ-loop

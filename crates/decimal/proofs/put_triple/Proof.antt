@@ -1,4 +1,4 @@
--- `decimal::put_triple` meets its contract: each number is put behind the one before. Assumes nothing.
+-- Each number is put behind the one before.
 use Rattle.text.proofs.PutAtLaws.{put-at-then}
 use Rattle.decimal.specs.Decimal.{digitsMost}
 use Rattle.decimal.proofs.DecimalLaws.{digitsBy-most}
@@ -9,10 +9,10 @@ use Rattle.decimal.proofs.put_triple.Tie as tie
 
 returns : tie.Need-returns
 returns c =
-    let put-number = c .before .before .before .before .before .before .before .before .before .before .before .before .before .before .before .before .put-number in
-    let put-field = c .before .before .before .before .before .before .before .before .before .before .before .put-field in
-    let put-field2 = c .before .before .before .before .before .before .put-field2 in
-    put-at-then (put-number .ensures) (put-at-then (put-field .ensures) (put-at-then (put-field2 .ensures) (c .before .before .put .ensures)))
+    let second = c .before .before .before .before .before .before in
+    let first = second .before .before .before .before .before in
+    let put-number = first .before .before .before .before .before .put-number in
+    put-at-then (put-number .ensures) (put-at-then (first .put-field .ensures) (put-at-then (second .put-field2 .ensures) (c .before .before .put .ensures)))
 
 put-field-requires : tie.Need-put-field-requires
 put-field-requires c κs = omega (arith, digitsBy-most digitsMost (c .before .before .before .before .before .before .before .args .a))

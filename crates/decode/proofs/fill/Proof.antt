@@ -23,7 +23,7 @@ loop-holds : tie.Need-loop-holds Inv-loop μ-loop
 unfolding tilesIn
 loop-holds c =
     let p = c .before .before .before .before .before .before .pre in
-    (search needs, filling-start (p .2) (p .3) (c .before .before .run .ensures))
+    (search needs, filling-start (p .2) (p .3) (c .before .before .span .ensures))
 
 paint-requires : tie.Need-paint-requires Inv-loop μ-loop
 paint-requires c κs =

@@ -32,15 +32,15 @@ add-from-2 c =
     arith) (omega arith) (omega arith) in
     omega (arith, f .small)
 
-add-run : tie.Need-add-run Inv-loop μ-loop
-add-run c =
+add-span : tie.Need-add-span Inv-loop μ-loop
+add-span c =
     let a = c .before .before .before .before .args in
     let f = row-fits (a .width) (length (a .raster .now)) (a .column) (a .row) (a .side) (c .before .before .loop .y) (omega arith) (omega arith)
     (omega arith) (omega arith) (omega arith) in
     omega (arith, f .small)
 
-run-requires : tie.Need-run-requires Inv-loop μ-loop
-run-requires c κs =
+span-requires : tie.Need-span-requires Inv-loop μ-loop
+span-requires c κs =
     let a = c .before .before .before .before .args in
     let l = c .before .before .loop in
     let f = row-fits (a .width) (length (a .raster .now)) (a .column) (a .row) (a .side) (l .y) (omega arith) (omega arith) (omega arith) (omega
@@ -48,12 +48,12 @@ run-requires c κs =
     omega (arith, f .within, l .inv .1 .long)
 
 loop-again : tie.Need-loop-again Inv-loop μ-loop
-loop-again c = (search needs, rectangle-more (omega arith) (c .before .before .before .before .before .loop .inv .1) (c .before .before .run .ensures))
+loop-again c = (search needs, rectangle-more (omega arith) (c .before .before .before .before .before .loop .inv .1) (c .before .before .span .ensures))
 
 returns : tie.Need-returns Inv-loop μ-loop
 returns c = let e : c .before .loop .y ≡ c .before .before .before .args .side = omega arith in rw e at (c .before .loop .inv .1)
 
 pub square-spec : {M : Type 1} → statement M
 square-spec =
-    tie.close (tie.spec Inv-loop μ-loop loop-holds (λ c. search needs) mul-from add-from-2 add-run run-requires (λ c. search needs)
+    tie.close (tie.spec Inv-loop μ-loop loop-holds (λ c. search needs) mul-from add-from-2 add-span span-requires (λ c. search needs)
     (λ c. search needs) loop-again (λ c. search needs) returns)

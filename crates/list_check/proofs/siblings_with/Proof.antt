@@ -89,4 +89,6 @@ rem-if1 : tie.Need-rem-if1
 rem-if1 c = omega (arith, area-pos (c .before .args .size + 1))
 
 pub siblings-with-spec : {M : Type 1} → statement M
-siblings-with-spec = tie.close (tie.spec (λ c. search needs) (λ c κs. search needs) rem-if1 returns returns-2 returns-3 returns-4 returns-5 (λ c. search needs) returns-6)
+siblings-with-spec =
+    tie.close (tie.spec (λ c. search needs) (λ c κs. search needs) rem-if1 returns returns-2 returns-3 returns-4 returns-5 (λ c. search needs)
+    returns-6)

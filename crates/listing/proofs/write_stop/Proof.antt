@@ -1,4 +1,4 @@
--- `listing::write_stop` meets its contract: the first run counts, the second puts. Assumes nothing.
+-- `listing::write_stop` meets its contract: the first pass counts, the second puts. Assumes nothing.
 use Rattle.listing.specs.Listing.{stopLine}
 use Rattle.listing.proofs.LentLaws.{listedIn-few, listedIn-fits}
 use native.Mathlib.Omega.{arith}

@@ -16,7 +16,8 @@ use Rattle.mapfile_entries.proofs.entries_good.Tie as tie
 abbrev Inv-loop : tie.InvT-loop
 Inv-loop order tiles file entries section j₀ p₀ j p =
     (j ≤ entries) × (p ≡ 1 + 5 * j)
-    × (entriesGood (map tileOf (wordsAt tiles file 5)) (entriesAt entries section 1) (entriesAt entries section 1) ≡ entriesGood (map tileOf (wordsAt tiles file 5)) (entriesAt entries section 1) (entriesAt (entries - j) section p))
+    × (entriesGood (map tileOf (wordsAt tiles file 5)) (entriesAt entries section 1) (entriesAt entries section 1)
+    ≡ entriesGood (map tileOf (wordsAt tiles file 5)) (entriesAt entries section 1) (entriesAt (entries - j) section p))
 
 abbrev μ-loop : tie.MeasureT-loop
 μ-loop order tiles file entries section j₀ p₀ j p = entries - j

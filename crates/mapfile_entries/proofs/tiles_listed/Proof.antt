@@ -17,7 +17,8 @@ use Rattle.mapfile_entries.proofs.tiles_listed.Tie as tie
 abbrev Inv-loop : tie.InvT-loop
 Inv-loop tiles file entries section set i₀ p₀ i p =
     (i ≤ tiles) × (p ≡ 5 + 4 * i)
-    × (tilesListed (entriesAt entries section 1) (map tileOf (wordsAt tiles file 5)) ≡ tilesListed (entriesAt entries section 1) (map tileOf (wordsAt (tiles - i) file p)))
+    × (tilesListed (entriesAt entries section 1) (map tileOf (wordsAt tiles file 5))
+    ≡ tilesListed (entriesAt entries section 1) (map tileOf (wordsAt (tiles - i) file p)))
 
 abbrev μ-loop : tie.MeasureT-loop
 μ-loop tiles file entries section set i₀ p₀ i p = tiles - i

@@ -16,7 +16,8 @@ use borrow.Author.Needs.{needs}
 use Rattle.part.proofs.inside.Statement.{statement}
 use Rattle.part.proofs.inside.Tie as tie
 
-answer : {p q l m : ℕ} → p ≡ q → l ≡ m → _≡_ {A = Part} (record { number = accepted; position = p; length = l }) (record { number = accepted; position = q; length = m })
+answer : {p q l m : ℕ} → p ≡ q → l ≡ m →
+    _≡_ {A = Part} (record { number = accepted; position = p; length = l }) (record { number = accepted; position = q; length = m })
 answer e h = cc
 
 ahead-requires : tie.Need-ahead-requires

@@ -14,7 +14,8 @@ use Rattle.scan_check.proofs.covers_unscanned.Tie as tie
 
 abbrev Inv-loop : tie.InvT-loop
 Inv-loop slots kind order pixels tiles i₀ i =
-    (i ≤ tiles) × (coversUnscanned (scanOf kind order pixels tiles) (tilesIn tiles slots) ≡ coversUnscanned (scanOf kind order pixels tiles) (words.tiles (drop i (take tiles slots))))
+    (i ≤ tiles) × (coversUnscanned (scanOf kind order pixels tiles) (tilesIn tiles slots)
+    ≡ coversUnscanned (scanOf kind order pixels tiles) (words.tiles (drop i (take tiles slots))))
 
 abbrev μ-loop : tie.MeasureT-loop
 μ-loop slots kind order pixels tiles i₀ i = tiles - i

@@ -13,7 +13,8 @@ use Rattle.scan_feed.proofs.feed_all.Statement.{statement}
 use Rattle.scan_feed.proofs.feed_all.Tie as tie
 
 abbrev Inv-loop : tie.InvT-loop
-Inv-loop slots₀ accounts kind order front₀ back₀ pixels₀ taken₀ slots front back pixels taken = (taken ≤ length accounts) × Feeding (scanOf kind order pixels₀ front₀) slots₀ accounts taken pixels slots front back
+Inv-loop slots₀ accounts kind order front₀ back₀ pixels₀ taken₀ slots front back pixels taken =
+    (taken ≤ length accounts) × Feeding (scanOf kind order pixels₀ front₀) slots₀ accounts taken pixels slots front back
 
 abbrev μ-loop : tie.MeasureT-loop
 μ-loop slots₀ accounts kind order front₀ back₀ pixels₀ taken₀ slots front back pixels taken = length accounts - taken

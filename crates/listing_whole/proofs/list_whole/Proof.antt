@@ -1,12 +1,12 @@
--- `listing::list_whole` meets its contract: the listing of what was read is that of the whole input, and fits. Assumes nothing.
+-- The listing of what was read is that of the whole input, and fits.
 use lib.Seq.{length-take-le}
 use mathlib.Core.Path.{sym}
 use lib.ListN.{take}
-use Rattle.listing.proofs.Bounds.{whole-listed}
+use Rattle.listing_whole.proofs.Bounds.{whole-listed}
 use native.Mathlib.Omega.{arith}
 use borrow.Author.Needs.{needs}
-use Rattle.listing.proofs.list_whole.Statement.{statement}
-use Rattle.listing.proofs.list_whole.Tie as tie
+use Rattle.listing_whole.proofs.list_whole.Statement.{statement}
+use Rattle.listing_whole.proofs.list_whole.Tie as tie
 
 returns : tie.Need-returns
 returns c =

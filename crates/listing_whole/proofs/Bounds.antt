@@ -1,4 +1,4 @@
--- The two numbers of the program bedlist: how much it reads, and how much it lends.
+-- How much of an input is read, and how much is lent for its listing.
 --     listing-read    input past `inputBytes` changes no listing
 --     listing-fits    every listing fits `listingBytes`
 --     whole-listed    a listing of what was read, in so many bytes, is the listing of the whole input
@@ -35,10 +35,11 @@ use Rattle.scan.specs.Feed.{fedTo, feedOf}
 use Rattle.decimal.specs.Decimal.{digitsMost}
 use Rattle.decimal.proofs.DecimalLaws.{digitsBy-below}
 use Rattle.decimal.proofs.LinesLaws.{pairLine-most, tripleLine-length}
 use Rattle.listing.specs.declared.Listed.{Listed}
-use Rattle.listing.specs.Listing.{bedWord, tilesWord, stopWord, takenWord, bedLine, tileLine, tileLines, stopLine, listedOrder, listedSlots, scanned, fedListing, listing, answered, listedIn, listOf, inputBytes, listingBytes, Whole}
+use Rattle.listing.specs.Listing.{bedWord, tilesWord, stopWord, takenWord, bedLine, tileLine, tileLines, stopLine, listedOrder, listedSlots, rowFed, fedListing, listing, listedTo, listedIn, listOf}
+use Rattle.listing_whole.specs.Whole.{inputBytes, listingBytes, Whole}
 use Rattle.listing.proofs.LineLaws.{tileLines-most}
 use Rattle.listing.proofs.LentLaws.{listedIn-room}
 
 freshOf-accepted : (k : Kind) (n : ℕ) (slots : List ℕ) → n ≤ highestOrder →
     freshOf k n slots ≡ record { answer = record { number = accepted; scan = scanOf k n 0 0 }; storage = replicate (length slots) 0 }
@@ -67,8 +68,8 @@ feedOf-read : (c : Scan) (slots : List ℕ) (j : ℕ) (bytes : List ℕ) → c .
 unfolding feedOf
 feedOf-read c slots j bytes l h = rw (feedPixels-read (length slots) 0 j (shownBed c slots) bytes l h)
 
-scanned-read : (n j : ℕ) (accounts : List ℕ) → n ≤ listedOrder → 4 ^ listedOrder < j → scanned n (take j accounts) ≡ scanned n accounts
-scanned-read n j accounts l h =
+rowFed-read : (n j : ℕ) (accounts : List ℕ) → n ≤ listedOrder → 4 ^ listedOrder < j → rowFed n (take j accounts) ≡ rowFed n accounts
+rowFed-read n j accounts l h =
     let g : 4 ^ n ≤ 4 ^ listedOrder = area-mono {k = listedOrder} l in
     rw (freshOf-accepted Rows n (replicate listedSlots 0) (omega arith)) (feedOf-read (scanOf Rows n 0 0) _ j accounts (omega arith) (omega arith))
 
@@ -77,7 +78,7 @@ unfolding listing
 listing-read [] = refl
 listing-read (n ∷ accounts) =
     by-if (λ (bytes : List ℕ). bytes ≡ listing (n ∷ accounts)) (test-leb n listedOrder)
-    (λ l. ap fedListing (scanned-read n (inputBytes - 1) accounts l (omega arith)) ∙ sym (if-yes _ _ (test-leb n listedOrder) l))
+    (λ l. ap fedListing (rowFed-read n (inputBytes - 1) accounts l (omega arith)) ∙ sym (if-yes _ _ (test-leb n listedOrder) l))
     (λ l. sym (if-no _ _ (test-leb n listedOrder) l))
 
 -- what is lent: the tiles of a listed bed have short lines, and there are no more of them than slots
@@ -155,8 +156,8 @@ feedOf-fits n slots bytes l =
     fed : {p : bed.BedFed} → FedAlike (length slots) Rows n p p → Fits (length slots) (fedListing (fedTo (length slots) p))
     fed {p} a = rw (a .second-bed) (good-fits (length slots) n (a .scanned) (a .second) (a .good) l (p .number) (p .taken))
 
-scanned-fits : (n : ℕ) (accounts : List ℕ) → n ≤ listedOrder → Fits listedSlots (fedListing (scanned n accounts))
-scanned-fits n accounts l =
+rowFed-fits : (n : ℕ) (accounts : List ℕ) → n ≤ listedOrder → Fits listedSlots (fedListing (rowFed n accounts))
+rowFed-fits n accounts l =
     rw (freshOf-accepted Rows n (replicate listedSlots 0) (omega arith)) (feedOf-fits n (replicate (length (replicate {A = ℕ} listedSlots 0)) 0) accounts l)
 
 pub listing-fits : (input : List ℕ) → length (listing input) ≤ listingBytes
@@ -164,17 +165,17 @@ unfolding listing stopLine
 listing-fits [] = omega (arith, pairLine-most stopWord fileCutShort takenWord 0)
 listing-fits (n ∷ accounts) =
     by-if (λ (bytes : List ℕ). length bytes ≤ listingBytes) (test-leb n listedOrder)
-    (λ l. omega (arith, scanned-fits n accounts l))
+    (λ l. omega (arith, rowFed-fits n accounts l))
     (λ l. omega (arith, pairLine-most stopWord orderTooLarge takenWord 0))
 
 module _ (read out new : List ℕ) (r : Listed) (h : length out ≡ listingBytes) (e : _≡_ {A = After Listed} (record { answer = r; storage = new }) (listOf read out)) where
-  room : listOf read out ≡ answered accepted (length (listing read)) (listing read ++ drop (length (listing read)) out)
+  room : listOf read out ≡ listedTo accepted (length (listing read)) (listing read ++ drop (length (listing read)) out)
   room = listedIn-room (listing read) out (omega (arith, listing-fits read))
 
   pub whole-listed : Whole read out (r .length) new
   whole-listed = record {
     fits = omega (arith, ap (λ (x : After Listed). x .answer .length) (e ∙ room), ap (λ (x : After Listed). length (x .storage)) (e ∙ room), length-append (listing read) (drop (length (listing read)) out));
     lists = λ input d.
-        ap (λ (x : After Listed). answered accepted (x .answer .length) (x .storage)) (e ∙ room) ∙ sym room
+        ap (λ (x : After Listed). listedTo accepted (x .answer .length) (x .storage)) (e ∙ room) ∙ sym room
         ∙ ap (λ (bytes : List ℕ). listedIn bytes out) (ap listing (sym d) ∙ listing-read input);
   }

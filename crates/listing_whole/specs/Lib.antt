@@ -1,0 +1,2 @@
+-- The listing of a whole input.
+pub mod Whole

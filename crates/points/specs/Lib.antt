@@ -1,0 +1,3 @@
+-- Points, their Morton numbers and the blocks around them.
+pub mod Points
+pub mod Worked
