@@ -91,6 +91,15 @@ struct bench {
 typedef kb_fresh_answer fresh_call(uint32_t, uint32_t, uint32_t *, size_t);
 typedef kb_feed_answer feed_call(uint32_t, uint32_t, uint32_t, size_t, uint32_t *, size_t, const uint8_t *, size_t);
 
+/* No call that is timed may be refused. */
+static void must(uint32_t number)
+{
+    if (number) {
+        fprintf(stderr, "bench: a call was refused: %s\n", kb_refusal_text(number));
+        exit(1);
+    }
+}
+
 /* A whole scan in pieces of a length with m slots; returns the tile count. */
 static size_t scan(struct bench *b, fresh_call *fresh, feed_call *feed, uint32_t kind, size_t m, size_t piece)
 {
@@ -100,10 +109,7 @@ static size_t scan(struct bench *b, fresh_call *fresh, feed_call *feed, uint32_t
     size_t tiles = record.tiles;
     for (size_t done = 0; done < b->pixels; done += piece) {
         kb_feed_answer fed = feed(kind, b->order, pixels, tiles, b->slots, m, accounts + done, piece);
-        if (fed.number) {
-            fprintf(stderr, "bench: a feed was refused with %u\n", fed.number);
-            exit(1);
-        }
+        must(fed.number);
         pixels = fed.pixels;
         tiles = fed.tiles;
     }
@@ -196,30 +202,37 @@ static void calls(struct bench *b)
     uint32_t *slots = b->slots;
     memset(slots, 0, m * sizeof *slots);
     memcpy(slots, b->list, tiles * sizeof *slots);
-    BOTH(ours, kb_check(order, tiles, slots, m), straight, straight_check(order, tiles, slots, m));
+    BOTH(ours, must(kb_check(order, tiles, slots, m)), straight, must(straight_check(order, tiles, slots, m)));
     cell(&ours, &straight, tiles);
-    BOTH(ours, kb_lookup(order, tiles, slots, m, at, at), straight, straight_lookup(order, tiles, slots, m, at, at));
+    BOTH(ours, must(kb_lookup(order, tiles, slots, m, at, at).number),
+         straight, must(straight_lookup(order, tiles, slots, m, at, at).number));
     cell(&ours, &straight, tiles);
-    BOTH(ours, kb_part(order, tiles, slots, m, corner, 2), straight, straight_part(order, tiles, slots, m, corner, 2));
+    BOTH(ours, must(kb_part(order, tiles, slots, m, corner, 2).number),
+         straight, must(straight_part(order, tiles, slots, m, corner, 2).number));
     cell(&ours, &straight, tiles);
-    BOTH(ours, kb_rights(order, tiles, slots, m, at, at, 9), straight, straight_rights(order, tiles, slots, m, at, at, 9));
+    BOTH(ours, must(kb_rights(order, tiles, slots, m, at, at, 9).number),
+         straight, must(straight_rights(order, tiles, slots, m, at, at, 9).number));
     cell(&ours, &straight, tiles);
     /* A block of 16 pixels is claimed and released in turn. */
     size_t left = tiles;
-    BOTH(ours, left = kb_claim(order, left, slots, m, corner, 2, 9).tiles; left = kb_claim(order, left, slots, m, corner, 2, 0).tiles,
+    BOTH(ours, left = kb_claim(order, left, slots, m, corner, 2, 9).tiles;
+         left = kb_claim(order, left, slots, m, corner, 2, 0).tiles,
          straight, left = straight_claim(order, left, slots, m, corner, 2, 9).tiles;
          left = straight_claim(order, left, slots, m, corner, 2, 0).tiles);
     cell(&ours, &straight, 2 * tiles);
     memcpy(slots, b->list, tiles * sizeof *slots);
     size_t length = kb_write(order, tiles, slots, m, b->file, KB_FILE_MOST(b->pixels)).length;
-    BOTH(ours, kb_write(order, tiles, slots, m, b->file, length), straight, straight_write(order, tiles, slots, m, b->file, length));
+    BOTH(ours, must(kb_write(order, tiles, slots, m, b->file, length).number),
+         straight, must(straight_write(order, tiles, slots, m, b->file, length).number));
     cell(&ours, &straight, tiles);
-    BOTH(ours, kb_read(b->file, length, slots, tiles), straight, straight_read(b->file, length, slots, tiles));
+    BOTH(ours, must(kb_read(b->file, length, slots, tiles).number),
+         straight, must(straight_read(b->file, length, slots, tiles).number));
     cell(&ours, &straight, tiles);
-    BOTH(ours, kb_decode(order, tiles, slots, m, b->raster, b->pixels), straight,
-         straight_decode(order, tiles, slots, m, b->raster, b->pixels));
+    BOTH(ours, must(kb_decode(order, tiles, slots, m, b->raster, b->pixels)), straight,
+         must(straight_decode(order, tiles, slots, m, b->raster, b->pixels)));
     cell(&ours, &straight, b->pixels);
-    BOTH(ours, kb_fresh(KB_ROWS, order, slots, b->pixels), straight, straight_fresh(KB_ROWS, order, slots, b->pixels));
+    BOTH(ours, must(kb_fresh(KB_ROWS, order, slots, b->pixels).number),
+         straight, must(straight_fresh(KB_ROWS, order, slots, b->pixels).number));
     cell(&ours, &straight, b->pixels);
 }
 

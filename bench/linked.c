@@ -55,7 +55,7 @@ static uint32_t merge(struct linked *scan, uint32_t last)
     for (uint32_t k = 0; k < scan->order; k++) {
         uint32_t word = nodes[last].word, step = area(k) << 10;
         uint32_t third = nodes[last].previous, second = nodes[third].previous, first = nodes[second].previous;
-        if ((kb_tile_corner(word) >> 2 * k & 3) != 3 || nodes[third].word != word - step || nodes[second].word != word - 2 * step
+        if ((corner_of(word) >> 2 * k & 3) != 3 || nodes[third].word != word - step || nodes[second].word != word - 2 * step
             || nodes[first].word != word - 3 * step)
             break;
         nodes[first].word += 1u << 6;
@@ -79,7 +79,7 @@ void linked_row(struct linked *scan, const uint8_t *accounts)
             place = nodes[place].taken_by;
         scan->columns[column] = place;
         if (accounts[column]) {
-            while (nodes[place].next && kb_tile_corner(nodes[nodes[place].next].word) < z)
+            while (nodes[place].next && corner_of(nodes[nodes[place].next].word) < z)
                 place = nodes[place].next;
             uint32_t new = scan->used++, next = nodes[place].next;
             nodes[new] = (struct node){word_of(z, 0, accounts[column]), next, place, 0};
@@ -88,7 +88,7 @@ void linked_row(struct linked *scan, const uint8_t *accounts)
             scan->tiles++;
             new = merge(scan, new);
             scan->most = scan->tiles > scan->most ? scan->tiles : scan->most;
-            uint32_t width = 1u << kb_tile_size(nodes[new].word);
+            uint32_t width = 1u << size_of(nodes[new].word);
             for (uint32_t x = column + 1 - width; x <= column; x++)
                 scan->columns[x] = new;
         }

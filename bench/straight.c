@@ -63,10 +63,10 @@ uint32_t straight_decode(uint32_t order, size_t tiles, const uint32_t *slots, si
         return KB_RASTER_LENGTH;
     memset(raster, 0, raster_length);
     for (size_t i = 0; i < tiles; i++) {
-        uint32_t corner = kb_tile_corner(slots[i]), side = 1u << kb_tile_size(slots[i]);
+        uint32_t corner = corner_of(slots[i]), side = 1u << size_of(slots[i]);
         uint8_t *at = raster + ((size_t)straight_side(corner >> 1) << order) + straight_side(corner);
         for (uint32_t row = 0; row < side; row++, at += (size_t)1 << order)
-            memset(at, kb_tile_account(slots[i]), side);
+            memset(at, account_of(slots[i]), side);
     }
     return 0;
 }
@@ -83,8 +83,8 @@ kb_lookup_answer straight_lookup(uint32_t order, size_t tiles, const uint32_t *s
     }
     uint32_t z = straight_morton(column, row);
     size_t at = find(tiles, slots, z);
-    if (at < tiles && kb_tile_corner(slots[at]) <= z)
-        answer.account = kb_tile_account(slots[at]);
+    if (at < tiles && corner_of(slots[at]) <= z)
+        answer.account = account_of(slots[at]);
     return answer;
 }
 
@@ -104,8 +104,8 @@ kb_part_answer straight_part(uint32_t order, size_t tiles, const uint32_t *slots
         return answer;
     }
     size_t at = find(tiles, slots, corner);
-    if (at < tiles && kb_tile_corner(slots[at]) <= corner && kb_tile_size(slots[at]) > size) {
-        answer.position = at + (kb_tile_corner(slots[at]) < corner);
+    if (at < tiles && corner_of(slots[at]) <= corner && size_of(slots[at]) > size) {
+        answer.position = at + (corner_of(slots[at]) < corner);
         return answer;
     }
     answer.position = at;
@@ -136,20 +136,20 @@ kb_rights_answer straight_rights(uint32_t order, size_t tiles, const uint32_t *s
 static size_t split(uint32_t tile, uint32_t corner, uint32_t size, uint8_t account, uint32_t *pieces)
 {
     size_t count = 0;
-    uint32_t start = kb_tile_corner(tile);
-    for (uint32_t k = kb_tile_size(tile); k-- > size;) {
+    uint32_t start = corner_of(tile);
+    for (uint32_t k = size_of(tile); k-- > size;) {
         uint32_t quarter = corner >> 2 * k & 3;
         for (uint32_t q = 0; q < quarter; q++)
-            pieces[count++] = word_of(start + q * area(k), k, kb_tile_account(tile));
+            pieces[count++] = word_of(start + q * area(k), k, account_of(tile));
         start += quarter * area(k);
     }
     if (account)
         pieces[count++] = word_of(corner, size, account);
-    for (uint32_t k = size; k < kb_tile_size(tile); k++) {
+    for (uint32_t k = size; k < size_of(tile); k++) {
         uint32_t quarter = corner >> 2 * k & 3;
         uint32_t parent = corner & ~(area(k + 1) - 1);
         for (uint32_t q = quarter + 1; q < 4; q++)
-            pieces[count++] = word_of(parent + q * area(k), k, kb_tile_account(tile));
+            pieces[count++] = word_of(parent + q * area(k), k, account_of(tile));
     }
     return count;
 }
@@ -157,7 +157,7 @@ static size_t split(uint32_t tile, uint32_t corner, uint32_t size, uint8_t accou
 /* Whether the three siblings of a block stand next to the run [low, high) whose place it takes. */
 static int siblings(size_t tiles, const uint32_t *slots, size_t low, size_t high, uint32_t block)
 {
-    uint32_t corner = kb_tile_corner(block), size = kb_tile_size(block), step = area(size) << 10;
+    uint32_t corner = corner_of(block), size = size_of(block), step = area(size) << 10;
     uint32_t place = corner >> 2 * size & 3;
     if (low < place || tiles - high < 3 - place)
         return 0;
@@ -187,9 +187,9 @@ kb_claim_answer straight_claim(uint32_t order, size_t tiles, uint32_t *slots, si
         return answer;
     }
     size_t low = find(tiles, slots, corner), high;
-    if (low < tiles && kb_tile_corner(slots[low]) <= corner && kb_tile_size(slots[low]) > size) {
+    if (low < tiles && corner_of(slots[low]) <= corner && size_of(slots[low]) > size) {
         high = low + 1;
-        if (kb_tile_account(slots[low]) == account)
+        if (account_of(slots[low]) == account)
             pieces[count++] = slots[low];
         else
             count = split(slots[low], corner, size, account, pieces);
@@ -197,11 +197,11 @@ kb_claim_answer straight_claim(uint32_t order, size_t tiles, uint32_t *slots, si
         high = find(tiles, slots, corner + area(size));
         if (account) {
             uint32_t block = word_of(corner, size, account);
-            while (kb_tile_size(block) < order && siblings(tiles, slots, low, high, block)) {
-                uint32_t k = kb_tile_size(block), place = kb_tile_corner(block) >> 2 * k & 3;
+            while (size_of(block) < order && siblings(tiles, slots, low, high, block)) {
+                uint32_t k = size_of(block), place = corner_of(block) >> 2 * k & 3;
                 low -= place;
                 high += 3 - place;
-                block = word_of(kb_tile_corner(block) - place * area(k), k + 1, account);
+                block = word_of(corner_of(block) - place * area(k), k + 1, account);
             }
             pieces[count++] = block;
         }

@@ -27,21 +27,29 @@ uint32_t straight_morton(uint32_t column, uint32_t row);
 uint32_t straight_side(uint32_t morton);
 
 static inline uint32_t area(uint32_t size) { return 1u << (2 * size); }
-static inline uint32_t word_of(uint32_t corner, uint32_t size, uint32_t account) { return corner << 10 | size << 6 | account; }
-static inline uint32_t end_of(uint32_t word) { return kb_tile_corner(word) + area(kb_tile_size(word)); }
+static inline uint32_t corner_of(uint32_t word) { return word >> 10; }
+static inline uint32_t size_of(uint32_t word) { return (word >> 6) & 15; }
+static inline uint8_t account_of(uint32_t word) { return (uint8_t)(word & 63); }
+
+static inline uint32_t word_of(uint32_t corner, uint32_t size, uint32_t account)
+{
+    return corner << 10 | size << 6 | account;
+}
+
+static inline uint32_t end_of(uint32_t word) { return corner_of(word) + area(size_of(word)); }
 
 /* The check of one word, number i of a list whose words ahead are good and end at `end`. */
 static inline uint32_t straight_word(uint32_t order, const uint32_t *list, size_t i, uint32_t end)
 {
     uint32_t word = list[i];
-    uint32_t corner = kb_tile_corner(word), size = kb_tile_size(word);
+    uint32_t corner = corner_of(word), size = size_of(word);
     if (word >> 30)
         return KB_HIGH_BITS_SET;
     if (size > order)
         return KB_SIZE_ABOVE_ORDER;
     if (corner >= area(order) || corner & (area(size) - 1))
         return KB_CORNER_INVALID;
-    if (kb_tile_account(word) == 0)
+    if (account_of(word) == 0)
         return KB_ACCOUNT_ZERO;
     if (corner < end)
         return KB_TILES_OVERLAP;

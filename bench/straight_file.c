@@ -22,7 +22,7 @@ kb_write_answer straight_write(uint32_t order, size_t tiles, const uint32_t *slo
     if (answer.number)
         return answer;
     for (size_t i = 0; i < tiles; i++)
-        totals[kb_tile_account(slots[i])] += area(kb_tile_size(slots[i]));
+        totals[account_of(slots[i])] += area(size_of(slots[i]));
     for (int a = 1; a <= KB_HIGHEST_ACCOUNT; a++)
         accounts += totals[a] > 0;
     if (file_length < 6 + 4 * tiles + 5 * accounts) {
@@ -92,7 +92,7 @@ kb_read_answer straight_read(const uint8_t *file, size_t file_length, uint32_t *
             return answer;
         }
         end = end_of(last[3]);
-        totals[kb_tile_account(last[3])] += area(kb_tile_size(last[3]));
+        totals[account_of(last[3])] += area(size_of(last[3]));
     }
     answer.number = roster(file + 5 + 4 * tiles, file_length - 5 - 4 * tiles, totals);
     if (answer.number)

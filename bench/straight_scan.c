@@ -57,9 +57,9 @@ kb_feed_answer straight_feed(uint32_t kind, uint32_t order, uint32_t pixels, siz
         if (account == 0)
             continue;
         uint32_t z = kind == KB_ROWS ? straight_morton(pixels & ((1u << order) - 1), pixels >> order) : pixels;
-        while (front > 0 && kb_tile_corner(slots[front - 1]) > z)
+        while (front > 0 && corner_of(slots[front - 1]) > z)
             slots[--back] = slots[--front];
-        while (back < slots_length && kb_tile_corner(slots[back]) < z)
+        while (back < slots_length && corner_of(slots[back]) < z)
             slots[front++] = slots[back++];
         size_t at = front;
         uint32_t word = word_of(z, 0, account);

@@ -1,30 +1,42 @@
 /* kingletbed.h: which account holds each pixel of a machine's bed, kept as a linear quadtree in storage that you lend.
 
    Words
-     bed      a square of 2^order columns by 2^order rows of pixels, order 0 to 10. Column and row count from 0 at the north-west.
+     bed      a square of 2^order columns by 2^order rows of pixels, order 0 to 10. Column and row count from 0 at the
+              north-west.
      account  0 to 63. Every pixel has one; 0 means nobody's.
-     Morton number  of a pixel: the bits of row and column taken in turn, the column's lowest bit last. Pixel (2, 1) has 6.
-     tile     a square of 2^size by 2^size pixels of one account, 1 to 63. Its corner is the Morton number of its north-west pixel, a
-              multiple of 4^size; the tile covers the numbers from corner to corner + 4^size - 1.
-     word     a tile in 32 bits: corner in bits 29 to 10, size in bits 9 to 6, account in bits 5 to 0, bits 31 and 30 zero.
+     Morton number  of a pixel: the bits of row and column taken in turn, the column's lowest bit last. Pixel (2, 1)
+              has 6.
+     tile     a square of 2^size by 2^size pixels of one account, 1 to 63. Its corner is the Morton number of its
+              north-west pixel, a multiple of 4^size; the tile covers the numbers from corner to corner + 4^size - 1.
+     word     a tile in 32 bits: corner in bits 29 to 10, size in bits 9 to 6, account in bits 5 to 0, bits 31 and 30
+              zero.
      block    a square that a tile could cover, given by corner and size.
-     map      an order, a tile count and the slots whose first `tiles` words are the list. The list of a bed is its largest
-              uniform blocks of non-zero accounts, by rising corner: one list for each bed.
-     scan     a map being filled: besides order and tile count the kind of scan and the pixels scanned so far.
+     map      an order, a tile count and the slots whose first `tiles` words are the list. The list of a bed is its
+              largest uniform blocks of non-zero accounts, by rising corner: one list for each bed.
+     scan     a map being filled: besides order and tile count the kind of scan and the pixels scanned so far. A kb_scan
+              is a scan with its slots: with it no count is copied by hand.
 
    Calling
-     Nothing is allocated and nothing is kept between calls: a call works on its arguments alone, so calls on separate storage may
-     run at once. Every call answers, whatever the numbers are and whatever the lent storage holds. What you must see to: a pointer
-     is good for the length behind it (with length 0 it may be anything), and storage that a call writes overlaps nothing else that
-     the same call is lent.
+     Nothing is allocated and nothing is kept between calls: a call works on its arguments alone, so calls on separate
+     storage may run at once. Every call answers, whatever the numbers are and whatever the lent storage holds. One
+     thing is asked of you, that the pointers are good:
+       - A pointer to slots, accounts or bytes has behind it as many of them as the length that follows it says, aligned
+         for their type, to be read and, unless it is const, written, until the call returns. A length counts items:
+         `sizeof slots` is four times too much. With length 0 the pointer may be anything, NULL too.
+       - Storage that a call writes overlaps nothing else that the same call is lent, and meanwhile nobody else uses it.
+       - A pointer to a kb_scan points to one that was begun, whose slots are still there.
+     An account is handed over in a byte, which cuts 256 to 0; and a claim for account 0 is a release. Compile with
+     -Wconversion, which tells, or claim by kb_scan_claim, which refuses.
 
    Refusals
-     The number of an answer is 0, or says which check was broken first. The checks go in the order in which a function's comment
-     names them. Unless the comment says otherwise, a refused call has changed no storage and the other fields of its answer are 0.
+     The number of an answer is 0, or says which check was broken first: look at it before the other fields.
+     kb_refusal_text has it in words. The checks go in the order in which a function's comment names them. Unless the
+     comment says otherwise, a refused call has changed no storage and the other fields of its answer are 0.
 
-     "The list checks" are these, and every call but kb_fresh and kb_read begins with them:
-       KB_ORDER_TOO_LARGE, KB_COUNT_ABOVE_SLOTS, then for each word from the first on KB_HIGH_BITS_SET, KB_SIZE_ABOVE_ORDER,
-       KB_CORNER_INVALID, KB_ACCOUNT_ZERO, KB_TILES_OVERLAP, KB_SIBLINGS_UNMERGED. The first bad word decides. */
+     "The list checks" are these, and every call on a map but kb_fresh and kb_read begins with them:
+       KB_ORDER_TOO_LARGE, KB_COUNT_ABOVE_SLOTS, then for each word from the first on KB_HIGH_BITS_SET,
+       KB_SIZE_ABOVE_ORDER, KB_CORNER_INVALID, KB_ACCOUNT_ZERO, KB_TILES_OVERLAP, KB_SIBLINGS_UNMERGED. The first bad
+       word decides. */
 
 #ifndef KINGLETBED_H
 #define KINGLETBED_H
@@ -32,15 +44,38 @@
 #include <stddef.h>
 #include <stdint.h>
 
+#define KB_VERSION "0.2.0"
+
+/* An answer that is dropped is a mistake, of which the compiler warns. */
+#if (defined(__cplusplus) && __cplusplus >= 201703L) || (defined(__STDC_VERSION__) && __STDC_VERSION__ >= 202311L)
+#define KB_MUST_USE [[nodiscard]]
+#elif defined(__GNUC__)
+#define KB_MUST_USE __attribute__((warn_unused_result))
+#else
+#define KB_MUST_USE
+#endif
+
 #ifdef __cplusplus
 extern "C" {
 #endif
 
-/* Limits. A list of a bed of order n never needs more than 4^n slots. */
+/* Limits. A list of a bed of order n never needs more than 4^n slots, so none needs more than 4^10. */
 #define KB_HIGHEST_ORDER 10
 #define KB_HIGHEST_ACCOUNT 63
+#define KB_MOST_SLOTS 1048576
 
-/* Kinds of scan. Any other number is taken as KB_MORTON. */
+/* A byte that is no account; and the byte in which to hand over an account that may not fit one. That goes as
+   KB_NO_ACCOUNT, which the call itself refuses; cut to a byte, 256 would go as 0. */
+#define KB_NO_ACCOUNT 255
+#if KB_NO_ACCOUNT <= KB_HIGHEST_ACCOUNT
+#error "KB_NO_ACCOUNT is an account: kb_account_byte and kb_scan_shown need another way to say that there is none"
+#endif
+KB_MUST_USE static inline uint8_t kb_account_byte(uint32_t account)
+{
+    return account < KB_NO_ACCOUNT ? (uint8_t)account : KB_NO_ACCOUNT;
+}
+
+/* Kinds of scan. Any other number is taken as KB_MORTON, and the record answered then has 1. */
 #define KB_ROWS 0
 #define KB_MORTON 1
 
@@ -56,75 +91,115 @@ enum kb_number {
     KB_CORNER_INVALID = 13,     /* a tile's corner is not below 4^order, or not a multiple of 4^size */
     KB_ACCOUNT_ZERO = 14,       /* a tile's account is 0 */
     KB_TILES_OVERLAP = 15,      /* a tile's corner comes before the end of the tile ahead of it */
-    KB_SIBLINGS_UNMERGED = 16,  /* a tile is the last of the four quarters of a block, all of one account: they make one tile */
+    KB_SIBLINGS_UNMERGED = 16,  /* a tile is the last of the four quarters of a block, all of one account */
 
     KB_SCANNED_TOO_LARGE = 21,  /* the pixels scanned are above 4^order */
     KB_TILE_UNSCANNED = 22,     /* a tile covers a pixel that is not scanned yet */
     KB_SCAN_FULL = 23,          /* a pixel is fed to a scan that has them all */
     KB_ACCOUNT_TOO_LARGE = 24,  /* the account fed or claimed is above 63 */
-    KB_SLOTS_EXCEEDED = 25,     /* the list after this pixel or claim, or the file's list, has more tiles than there are slots */
+    KB_SLOTS_EXCEEDED = 25,     /* the list after this pixel or claim, or the file's, has more tiles than slots lent */
     KB_BYTES_TOO_FEW = 26,      /* the bytes lent are fewer than the file takes */
 
     KB_POINT_OUTSIDE = 31,      /* the column or the row is not below 2^order */
-    KB_BLOCK_INVALID = 32,      /* the block's size is above the order, or its corner not below 4^order or not a multiple of 4^size */
+    KB_BLOCK_INVALID = 32,      /* the size is above the order, the corner not below 4^order or no multiple of 4^size */
     KB_RASTER_LENGTH = 33,      /* the raster's length is not 4^order */
     KB_ASKER_INVALID = 34,      /* the asking account is 0 or above 63 */
 
     KB_FILE_CUT_SHORT = 41,     /* the bytes end before the item to be read */
     KB_TRAILING_BYTES = 42,     /* bytes follow the roster */
-    KB_ROSTER_WRONG = 43        /* the roster does not have each account of the tiles once, with the pixels that it covers */
+    KB_ROSTER_WRONG = 43        /* the roster does not have each account of the tiles once, with the pixels it covers */
 };
 
-/* The answers. kb_check and kb_decode answer the number alone. */
+/* The answers. kb_check and kb_decode answer the number alone, kb_tile_corner, kb_tile_size and kb_tile_account the
+   field alone. */
+typedef struct { uint32_t number; uint32_t side; uint32_t pixels; } kb_extent_answer;
+typedef struct { uint32_t number; uint32_t morton; } kb_morton_answer;
+typedef struct { uint32_t number; uint32_t corner; uint32_t size; } kb_block_answer;
+typedef struct { uint32_t number; uint32_t column; uint32_t row; } kb_point_answer;
 typedef struct { uint32_t number; uint32_t kind; uint32_t order; uint32_t pixels; size_t tiles; } kb_fresh_answer;
-typedef struct { uint32_t number; size_t taken; uint32_t kind; uint32_t order; uint32_t pixels; size_t tiles; } kb_feed_answer;
+typedef struct { uint32_t number; size_t taken; uint32_t kind; uint32_t order; uint32_t pixels; size_t tiles; }
+    kb_feed_answer;
 typedef struct { uint32_t number; uint8_t account; } kb_lookup_answer;
 typedef struct { uint32_t number; size_t position; size_t length; } kb_part_answer;
+typedef struct { uint32_t number; const uint32_t *tiles; size_t length; } kb_part_tiles_answer;
 typedef struct { uint32_t number; uint8_t yes; } kb_rights_answer;
 typedef struct { uint32_t number; size_t tiles; } kb_claim_answer;
 typedef struct { uint32_t number; size_t length; } kb_write_answer;
 typedef struct { uint32_t number; uint32_t order; size_t tiles; } kb_read_answer;
 
+/* ---- Calls on a bed's numbers ---- */
+
+/* The columns, and as many rows, of a bed of an order or a block of a size, 2^order; and its pixels, 4^order.
+     refuses   KB_ORDER_TOO_LARGE */
+KB_MUST_USE kb_extent_answer kb_extent(uint32_t order);
+
+/* The Morton number of a pixel.
+     refuses   KB_ORDER_TOO_LARGE, KB_POINT_OUTSIDE */
+KB_MUST_USE kb_morton_answer kb_morton(uint32_t order, uint32_t column, uint32_t row);
+
+/* The block of a size that has a pixel in it, as kb_part and kb_claim are handed one.
+     refuses   KB_ORDER_TOO_LARGE, KB_POINT_OUTSIDE, KB_BLOCK_INVALID for a size above the order; corner and size are
+               then 0 and 0, which is a block too: do not go on with them */
+KB_MUST_USE kb_block_answer kb_block(uint32_t order, uint32_t column, uint32_t row, uint32_t size);
+
+/* The pixel of a Morton number.
+     refuses   KB_ORDER_TOO_LARGE, KB_BLOCK_INVALID for a number that is not below 4^order */
+KB_MUST_USE kb_point_answer kb_point(uint32_t order, uint32_t morton);
+
+/* What a word says, whatever the word: the bits from 10 on, bits 9 to 6, bits 5 to 0. Nothing is refused. */
+KB_MUST_USE uint32_t kb_tile_corner(uint32_t word);
+KB_MUST_USE uint32_t kb_tile_size(uint32_t word);
+KB_MUST_USE uint8_t kb_tile_account(uint32_t word);
+
+/* ---- Calls on a map ---- */
+
 /* List checking: is this a map?
      refuses   the list checks
      accepts   the first `tiles` slots are the one list of the bed that they show
      storage   nothing is written */
-uint32_t kb_check(uint32_t order, size_t tiles, const uint32_t *slots, size_t slots_length);
+KB_MUST_USE uint32_t kb_check(uint32_t order, size_t tiles, const uint32_t *slots, size_t slots_length);
 
 /* Begins a scan of a bed: no pixel, no tile.
      refuses   KB_ORDER_TOO_LARGE; the answer is then a record of the kind asked with all its numbers 0
      accepts   the record of the new scan
      storage   accepted, all slots are 0; refused, they are as they were */
-kb_fresh_answer kb_fresh(uint32_t kind, uint32_t order, uint32_t *slots, size_t slots_length);
+KB_MUST_USE kb_fresh_answer kb_fresh(uint32_t kind, uint32_t order, uint32_t *slots, size_t slots_length);
 
-/* Goes on with a scan: each account is that of the next pixel, row after row (KB_ROWS) or by rising Morton number (KB_MORTON).
-   After each pixel the list is the list of the bed with that pixel in its place; an unscanned pixel counts as nobody's. Hand over
-   as many accounts at once as you have, or none.
+/* Goes on with a scan: each account is that of the next pixel, row after row (KB_ROWS) or by rising Morton number
+   (KB_MORTON). After each pixel the list is the list of the bed with that pixel in its place; an unscanned pixel counts
+   as nobody's. Hand over as many accounts at once as you have, or none.
      refuses   the list checks, KB_SCANNED_TOO_LARGE, KB_TILE_UNSCANNED: these open the feed; then at each pixel
-               KB_SCAN_FULL, KB_ACCOUNT_TOO_LARGE, KB_SLOTS_EXCEEDED. A list that the pixel's merge shortens enough is not refused.
-     answers   how many accounts were taken, and the record to go on with. An opening check gives back the record handed in, with 0
-               taken. A feed stopped at a pixel keeps the pixels before it and has their count and record.
-     storage   past the opening checks the slots hold the list of the pixels taken, and 0 from its end on, also when the feed was
-               stopped at its first pixel or had none; refused by an opening check, the slots are as they were */
-kb_feed_answer kb_feed(uint32_t kind, uint32_t order, uint32_t pixels, size_t tiles, uint32_t *slots, size_t slots_length,
-                       const uint8_t *accounts, size_t accounts_length);
+               KB_SCAN_FULL, KB_ACCOUNT_TOO_LARGE, KB_SLOTS_EXCEEDED. A list that the pixel's merge shortens enough is
+               not refused.
+     answers   how many accounts were taken, and the record to go on with. An opening check gives back the record handed
+               in, with 0 taken. A feed stopped at a pixel keeps the pixels before it and has their count and record.
+     storage   past the opening checks the slots hold the list of the pixels taken, and 0 from its end on, also when the
+               feed was stopped at its first pixel or had none; refused by an opening check, they are as they were */
+KB_MUST_USE kb_feed_answer kb_feed(uint32_t kind, uint32_t order, uint32_t pixels, size_t tiles,
+                                   uint32_t *slots, size_t slots_length,
+                                   const uint8_t *accounts, size_t accounts_length);
 
 /* Decodes a map to one account byte for each pixel, row after row from the north-west.
      refuses   the list checks, KB_RASTER_LENGTH
      storage   accepted, all 4^order bytes are written; refused, they are as they were */
-uint32_t kb_decode(uint32_t order, size_t tiles, const uint32_t *slots, size_t slots_length,
-                   uint8_t *raster, size_t raster_length);
+KB_MUST_USE uint32_t kb_decode(uint32_t order, size_t tiles, const uint32_t *slots, size_t slots_length,
+                               uint8_t *raster, size_t raster_length);
 
 /* The account at a pixel, 0 for nobody's.
-     refuses   the list checks, KB_POINT_OUTSIDE
+     refuses   the list checks, KB_POINT_OUTSIDE; the account is then 0 as well, and says nothing of the pixel
      storage   nothing is written */
-kb_lookup_answer kb_lookup(uint32_t order, size_t tiles, const uint32_t *slots, size_t slots_length, uint32_t column, uint32_t row);
+KB_MUST_USE kb_lookup_answer kb_lookup(uint32_t order, size_t tiles, const uint32_t *slots, size_t slots_length,
+                                       uint32_t column, uint32_t row);
 
-/* The tiles that lie wholly inside a block: `length` tiles of the list from `position` on. The position is the number of tiles with
-   a smaller corner than the block's. No tile is inside when a larger one covers the block. kb_part_tiles gives a pointer instead.
+/* The tiles that lie wholly inside a block: `length` tiles of the list from `position` on. The position is the number
+   of tiles with a smaller corner than the block's. kb_part_tiles gives a pointer instead.
+   A block under a larger tile has no tile inside: an EMPTY PART MAY BE HELD GROUND, and a panel that draws the part's
+   tiles shows it as free. Where the part is empty, ask kb_lookup at the block's corner (kb_point has its column and
+   row): the whole block has that account. kb_scan_shown does so.
      refuses   the list checks, KB_BLOCK_INVALID
      storage   nothing is written */
-kb_part_answer kb_part(uint32_t order, size_t tiles, const uint32_t *slots, size_t slots_length, uint32_t corner, uint32_t size);
+KB_MUST_USE kb_part_answer kb_part(uint32_t order, size_t tiles, const uint32_t *slots, size_t slots_length,
+                                   uint32_t corner, uint32_t size);
 
 /* May an account place at a pixel? `yes` is 1 or 0. Accounts 1 to 7 are staff, 8 to 47 students, 48 to 63 guests.
                   own pixel   nobody's   another guest's   another student's   another staff member's
@@ -133,73 +208,200 @@ kb_part_answer kb_part(uint32_t order, size_t tiles, const uint32_t *slots, size
        guests     yes         no         no                no                  no
      refuses   the list checks, KB_POINT_OUTSIDE, KB_ASKER_INVALID
      storage   nothing is written */
-kb_rights_answer kb_rights(uint32_t order, size_t tiles, const uint32_t *slots, size_t slots_length,
-                           uint32_t column, uint32_t row, uint8_t account);
+KB_MUST_USE kb_rights_answer kb_rights(uint32_t order, size_t tiles, const uint32_t *slots, size_t slots_length,
+                                       uint32_t column, uint32_t row, uint8_t account);
 
-/* Gives every pixel of a block to an account; account 0 releases them.
+/* Gives every pixel of a block to an account; account 0 releases them. An account cut to a byte on its way here, 256 to
+   0, releases them too: hand over kb_account_byte(account) if yours may not fit.
      refuses   the list checks, KB_BLOCK_INVALID, KB_ACCOUNT_TOO_LARGE, KB_SLOTS_EXCEEDED
-     answers   the new tile count. A scan goes on with it in its record; while a claim has a tile on a pixel that the scan has not
-               reached, kb_feed refuses with KB_TILE_UNSCANNED.
-     storage   accepted, the slots hold the list of the changed bed, and 0 from its end on; refused, they are as they were */
-kb_claim_answer kb_claim(uint32_t order, size_t tiles, uint32_t *slots, size_t slots_length,
-                         uint32_t corner, uint32_t size, uint8_t account);
+     answers   the new tile count. The old one no longer goes with these slots: it may cut tiles off the list, whose
+               ground then reads as free. A scan goes on with the new one in its record; while a claim has a tile on a
+               pixel that the scan has not reached, kb_feed refuses with KB_TILE_UNSCANNED.
+     storage   accepted, the slots hold the list of the changed bed, and 0 from its end on; refused, they are as they
+               were */
+KB_MUST_USE kb_claim_answer kb_claim(uint32_t order, size_t tiles, uint32_t *slots, size_t slots_length,
+                                     uint32_t corner, uint32_t size, uint8_t account);
 
-/* Writes a map as a file: the order in 1 byte; the tile count in 4 and each word in 4; the number of roster entries in 1 and each
-   entry in 5, an account and the pixels that it covers in 4. High bytes come first. The roster has each account of the tiles once, by
-   rising account. A file of t tiles and a accounts takes 6 + 4t + 5a bytes; KB_FILE_MOST(t) bytes are enough for t tiles.
+/* Writes a map as a file: the order in 1 byte; the tile count in 4 and each word in 4; the number of roster entries in
+   1 and each entry in 5, an account and the pixels that it covers in 4. High bytes come first. The roster has each
+   account of the tiles once, by rising account. A file of t tiles and a accounts takes 6 + 4t + 5a bytes.
      refuses   the list checks, KB_BYTES_TOO_FEW
      answers   the bytes written
-     storage   accepted, the bytes from the first on hold the file and those past it are as they were; refused, all are */
-kb_write_answer kb_write(uint32_t order, size_t tiles, const uint32_t *slots, size_t slots_length, uint8_t *file, size_t file_length);
+     storage   accepted, the first bytes hold the file and those past it are as they were; refused, all are */
+KB_MUST_USE kb_write_answer kb_write(uint32_t order, size_t tiles, const uint32_t *slots, size_t slots_length,
+                                     uint8_t *file, size_t file_length);
 
-#define KB_FILE_MOST(tiles) \
-    (6 + 4 * (size_t)(tiles) + 5 * ((size_t)(tiles) < KB_HIGHEST_ACCOUNT ? (size_t)(tiles) : (size_t)KB_HIGHEST_ACCOUNT))
+/* Bytes that are enough for a file of so many tiles: a constant if the count is one; it is evaluated more than once. No
+   list has more than KB_MOST_SLOTS tiles, so a larger count is taken as that, and nothing wraps. */
+#define KB_FILE_MOST(tiles) (6 + 4 * KB_AT_MOST(tiles, KB_MOST_SLOTS) + 5 * KB_AT_MOST(tiles, KB_HIGHEST_ACCOUNT))
+#define KB_AT_MOST(count, most) ((uint64_t)(count) < (most) ? (size_t)(count) : (size_t)(most))
 
-/* Reads a file to a map; a scan record made of it is by rows with all 4^order pixels scanned. The roster's order does not matter.
-     refuses   as the file goes: KB_FILE_CUT_SHORT wherever the bytes end before an item; KB_ORDER_TOO_LARGE; KB_SLOTS_EXCEEDED for
-               its tile count; KB_HIGH_BITS_SET to KB_SIBLINGS_UNMERGED at each word; after the roster KB_TRAILING_BYTES, then
-               KB_ROSTER_WRONG
+/* Reads a file to a map; a scan record made of it is by rows with all 4^order pixels scanned. The roster's order does
+   not matter.
+     refuses   as the file goes: KB_FILE_CUT_SHORT wherever the bytes end before an item; KB_ORDER_TOO_LARGE;
+               KB_SLOTS_EXCEEDED for its tile count; KB_HIGH_BITS_SET to KB_SIBLINGS_UNMERGED at each word; after the
+               roster KB_TRAILING_BYTES, then KB_ROSTER_WRONG
      answers   the order and the tile count
      storage   accepted, the slots hold the file's list, and 0 from its end on; refused, they are as they were */
-kb_read_answer kb_read(const uint8_t *file, size_t file_length, uint32_t *slots, size_t slots_length);
+KB_MUST_USE kb_read_answer kb_read(const uint8_t *file, size_t file_length, uint32_t *slots, size_t slots_length);
 
 /* The same as kb_part, with the part as a pointer into your own slots; refused, it is the empty part at their start. */
-typedef struct { uint32_t number; const uint32_t *tiles; size_t length; } kb_part_tiles_answer;
-
-static inline kb_part_tiles_answer kb_part_tiles(uint32_t order, size_t tiles, const uint32_t *slots, size_t slots_length,
-                                                 uint32_t corner, uint32_t size)
+KB_MUST_USE static inline kb_part_tiles_answer kb_part_tiles(uint32_t order, size_t tiles,
+                                                             const uint32_t *slots, size_t slots_length,
+                                                             uint32_t corner, uint32_t size)
 {
     kb_part_answer part = kb_part(order, tiles, slots, slots_length, corner, size);
-    kb_part_tiles_answer answer;
-    answer.number = part.number;
-    answer.tiles = part.position == 0 ? slots : slots + part.position;
-    answer.length = part.length;
+    kb_part_tiles_answer answer = {part.number, part.position == 0 ? slots : slots + part.position, part.length};
     return answer;
 }
 
-/* What a word of a list says. */
-static inline uint32_t kb_tile_corner(uint32_t word) { return word >> 10; }
-static inline uint32_t kb_tile_size(uint32_t word) { return (word >> 6) & 15; }
-static inline uint8_t kb_tile_account(uint32_t word) { return (uint8_t)(word & 63); }
+/* ---- The scan with its slots ----
+   Begin with `kb_scan scan = {0};` (in C++ `= {};`), an empty bed of order 0 without slots; then kb_scan_fresh or
+   kb_scan_read. Each function makes the call of its name on the scan's own numbers and slots, refuses what that call
+   refuses and brings the scan up to date; where the rest of an answer goes into the scan, it answers the number alone.
+   Leave the fields and the slots to these functions. A copy of a kb_scan has the same slots: once they change through
+   one of the two, the other is stale and must not be used. */
+typedef struct kb_scan {
+    uint32_t kind, order, pixels;
+    size_t tiles;
+    uint32_t *slots;
+    size_t slots_length;
+} kb_scan;
 
-/* The column and the row of a Morton number: its bits at even and at odd places. */
-static inline uint32_t kb_column(uint32_t morton)
+/* Refused, the scan is as it was, with the slots that it had. */
+KB_MUST_USE static inline uint32_t kb_scan_fresh(kb_scan *scan, uint32_t kind, uint32_t order,
+                                                 uint32_t *slots, size_t slots_length)
 {
-    uint32_t column = 0;
-    for (int bit = 0; bit < KB_HIGHEST_ORDER; bit++)
-        column |= ((morton >> (2 * bit)) & 1) << bit;
-    return column;
+    kb_fresh_answer fresh = kb_fresh(kind, order, slots, slots_length);
+    if (fresh.number == KB_ACCEPTED) {
+        kb_scan begun = {fresh.kind, fresh.order, fresh.pixels, fresh.tiles, slots, slots_length};
+        *scan = begun;
+    }
+    return fresh.number;
 }
 
-static inline uint32_t kb_row(uint32_t morton) { return kb_column(morton >> 1); }
-
-/* The Morton number of a pixel whose column and row are below 2^10. */
-static inline uint32_t kb_morton(uint32_t column, uint32_t row)
+/* Accepted, the scan is by rows and has every pixel; refused, it is as it was, with the slots that it had. */
+KB_MUST_USE static inline uint32_t kb_scan_read(kb_scan *scan, const uint8_t *file, size_t file_length,
+                                                uint32_t *slots, size_t slots_length)
 {
-    uint32_t morton = 0;
-    for (int bit = 0; bit < KB_HIGHEST_ORDER; bit++)
-        morton |= (((column >> bit) & 1) | (((row >> bit) & 1) << 1)) << (2 * bit);
-    return morton;
+    kb_read_answer read = kb_read(file, file_length, slots, slots_length);
+    if (read.number == KB_ACCEPTED) { /* so that kb_extent accepts the order */
+        kb_scan whole = {KB_ROWS, read.order, kb_extent(read.order).pixels, read.tiles, slots, slots_length};
+        *scan = whole;
+    }
+    return read.number;
+}
+
+/* Stopped at a pixel, the scan has the pixels before it; `taken` of the answer says how many accounts that were. */
+KB_MUST_USE static inline kb_feed_answer kb_scan_feed(kb_scan *scan, const uint8_t *accounts, size_t accounts_length)
+{
+    kb_feed_answer fed = kb_feed(scan->kind, scan->order, scan->pixels, scan->tiles, scan->slots, scan->slots_length,
+                                 accounts, accounts_length);
+    scan->kind = fed.kind;
+    scan->order = fed.order;
+    scan->pixels = fed.pixels;
+    scan->tiles = fed.tiles;
+    return fed;
+}
+
+/* Every account above 63 is KB_ACCOUNT_TOO_LARGE, 256 too. */
+KB_MUST_USE static inline uint32_t kb_scan_claim(kb_scan *scan, uint32_t corner, uint32_t size, uint32_t account)
+{
+    kb_claim_answer claimed = kb_claim(scan->order, scan->tiles, scan->slots, scan->slots_length,
+                                       corner, size, kb_account_byte(account));
+    if (claimed.number == KB_ACCEPTED)
+        scan->tiles = claimed.tiles;
+    return claimed.number;
+}
+
+KB_MUST_USE static inline uint32_t kb_scan_check(const kb_scan *scan)
+{
+    return kb_check(scan->order, scan->tiles, scan->slots, scan->slots_length);
+}
+
+KB_MUST_USE static inline uint32_t kb_scan_decode(const kb_scan *scan, uint8_t *raster, size_t raster_length)
+{
+    return kb_decode(scan->order, scan->tiles, scan->slots, scan->slots_length, raster, raster_length);
+}
+
+KB_MUST_USE static inline kb_lookup_answer kb_scan_lookup(const kb_scan *scan, uint32_t column, uint32_t row)
+{
+    return kb_lookup(scan->order, scan->tiles, scan->slots, scan->slots_length, column, row);
+}
+
+/* Every account above 63 is KB_ASKER_INVALID, 257 too. */
+KB_MUST_USE static inline kb_rights_answer kb_scan_rights(const kb_scan *scan, uint32_t column, uint32_t row,
+                                                          uint32_t account)
+{
+    return kb_rights(scan->order, scan->tiles, scan->slots, scan->slots_length, column, row, kb_account_byte(account));
+}
+
+/* A pointer into the scan's slots, good until the scan changes. An empty part may be held ground: see kb_part. */
+KB_MUST_USE static inline kb_part_tiles_answer kb_scan_part(const kb_scan *scan, uint32_t corner, uint32_t size)
+{
+    return kb_part_tiles(scan->order, scan->tiles, scan->slots, scan->slots_length, corner, size);
+}
+
+/* What a panel draws of a block. `account` is that of all its pixels, 0 for nobody's, also under a larger tile; if they
+   have not all one account, it is KB_NO_ACCOUNT: then draw the part, `length` tiles from `tiles` on, and the ground
+   between them is nobody's. Refused, the part is empty and the account KB_NO_ACCOUNT.
+     refuses   the list checks, KB_BLOCK_INVALID */
+typedef struct { uint32_t number; const uint32_t *tiles; size_t length; uint8_t account; } kb_shown_answer;
+
+KB_MUST_USE static inline kb_shown_answer kb_scan_shown(const kb_scan *scan, uint32_t corner, uint32_t size)
+{
+    kb_part_tiles_answer part = kb_scan_part(scan, corner, size);
+    kb_shown_answer shown = {part.number, part.tiles, part.length, KB_NO_ACCOUNT};
+    if (part.number != KB_ACCEPTED)
+        return shown;
+    if (part.length == 0) {
+        kb_point_answer at = kb_point(scan->order, corner);
+        kb_lookup_answer found = kb_scan_lookup(scan, at.column, at.row);
+        shown.number = at.number != KB_ACCEPTED ? at.number : found.number;
+        shown.account = shown.number == KB_ACCEPTED ? found.account : KB_NO_ACCOUNT;
+    } else if (kb_tile_size(part.tiles[0]) == size) {
+        shown.account = kb_tile_account(part.tiles[0]);
+    }
+    return shown;
+}
+
+/* A file does not say how far a scan is: read back, the pixels not scanned yet are nobody's, and scanned. */
+KB_MUST_USE static inline kb_write_answer kb_scan_write(const kb_scan *scan, uint8_t *file, size_t file_length)
+{
+    return kb_write(scan->order, scan->tiles, scan->slots, scan->slots_length, file, file_length);
+}
+
+/* ---- Texts ---- */
+
+/* A number in words. */
+KB_MUST_USE static inline const char *kb_refusal_text(uint32_t number)
+{
+    switch (number) {
+    case KB_ACCEPTED: return "accepted";
+    case KB_ORDER_TOO_LARGE: return "the order is above 10";
+    case KB_COUNT_ABOVE_SLOTS: return "the tile count is above the number of slots";
+    case KB_HIGH_BITS_SET: return "a tile word has bit 31 or 30 set";
+    case KB_SIZE_ABOVE_ORDER: return "a tile is larger than the bed";
+    case KB_CORNER_INVALID: return "a tile's corner is off the bed or not a multiple of its area";
+    case KB_ACCOUNT_ZERO: return "a tile has account 0";
+    case KB_TILES_OVERLAP: return "a tile begins before the end of the tile ahead of it";
+    case KB_SIBLINGS_UNMERGED: return "four tiles of one account are the quarters of one block and should be one tile";
+    case KB_SCANNED_TOO_LARGE: return "more pixels are scanned than the bed has";
+    case KB_TILE_UNSCANNED: return "a tile covers a pixel that is not scanned yet";
+    case KB_SCAN_FULL: return "the scan already has every pixel";
+    case KB_ACCOUNT_TOO_LARGE: return "the account is above 63";
+    case KB_SLOTS_EXCEEDED: return "the list would have more tiles than there are slots";
+    case KB_BYTES_TOO_FEW: return "the bytes lent are fewer than the file takes";
+    case KB_POINT_OUTSIDE: return "the pixel is off the bed";
+    case KB_BLOCK_INVALID:
+        return "the block is larger than the bed, off the bed, or its corner not a multiple of its area";
+    case KB_RASTER_LENGTH: return "the raster does not have one byte for each pixel";
+    case KB_ASKER_INVALID: return "the asking account is 0 or above 63";
+    case KB_FILE_CUT_SHORT: return "the file ends too early";
+    case KB_TRAILING_BYTES: return "bytes follow the end of the file's roster";
+    case KB_ROSTER_WRONG: return "the file's roster does not match its tiles";
+    default: return "a number that this version does not know";
+    }
 }
 
 #ifdef __cplusplus

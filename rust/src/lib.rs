@@ -1,44 +1,66 @@
 //! Which account holds each pixel of a machine's bed, kept as a linear quadtree in slots that you lend.
 //!
-//! A bed of order n has 2^n columns by 2^n rows of pixels, n from 0 to 10. Each pixel has an account from 0 to 63; 0 is nobody's.
-//! A [`Map`] is an order and a tile count; the tiles themselves are the first words of a `[u32]` that you keep. A [`Scan`] is a map
-//! being filled from a run of account bytes, by rows or in Morton order. Every call checks what it is handed and answers a
-//! [`Refusal`] that says in words what was wrong; a refused call changes nothing, except that a feed keeps the pixels before the
-//! one that stopped it. The library behind this wrapper is proved to do so; the wrapper only gives its numbers types.
+//! A bed of order n has 2^n columns by 2^n rows of pixels, n from 0 to 10. Each pixel has an account from 0 to 63; 0 is
+//! nobody's. A [`Bed`] has its slots, by value or by borrow, and in them a word for each of its [`Tile`]s: the largest
+//! blocks of one account, by rising Morton number. It is filled from account bytes, by rows or in Morton order, read
+//! from a file, or made of slots that have a list already.
 //!
 //! ```
-//! use kingletbed::{Account, Block, Kind, Pixel, Scan, Tile};
+//! use kingletbed::{Account, Bed, Block, Kind, Pixel};
 //!
 //! # fn main() -> Result<(), Box<dyn std::error::Error>> {
-//! let mut slots = [0; 16];
-//! let scan = Scan::fresh(Kind::Rows, 2, &mut slots)?;
-//! let scan = scan.feed(&mut slots, &[5, 5, 0, 0, 5, 5, 0, 9, 9, 0, 9, 9, 0, 0, 9, 9])?;
+//! let mut bed = Bed::fresh(Kind::Rows, 2, [0; 16])?;
+//! bed.feed(&[5, 5, 0, 0, 5, 5, 0, 9, 9, 0, 9, 9, 0, 0, 9, 9])?;
+//! assert_eq!(bed.tiles().len(), 4);
+//! assert_eq!(bed.lookup(Pixel { column: 3, row: 1 })?, Account(9));
 //!
-//! let map = scan.map();
-//! let tiles: Vec<Tile> = map.tiles_in(&slots)?.collect();
-//! assert_eq!(tiles.len(), 4);
-//! assert_eq!(tiles[0], Tile { corner: 0, size: 1, account: Account(5) });
-//! assert_eq!(map.lookup(&slots, Pixel { column: 3, row: 1 })?, Account(9));
-//!
-//! let map = map.claim(&mut slots, Block { corner: 4, size: 1 }, Account(9))?;
-//! assert_eq!(map.lookup(&slots, Pixel { column: 2, row: 0 })?, Account(9));
+//! bed.claim(Block { corner: 4, size: 1 }, Account(9))?;
+//! assert_eq!(bed.lookup(Pixel { column: 2, row: 0 })?, Account(9));
+//! assert!(!bed.rights(Pixel { column: 2, row: 0 }, Account(48))?);
 //! # Ok(())
 //! # }
 //! ```
+//!
+//! Every call answers. What it does not accept it refuses with a [`Refusal`], which says in words what was wrong, and a
+//! refused call changes nothing, except that a feed keeps the pixels ahead of the one that stopped it. The library
+//! behind this wrapper is proved to do so, for every list, every input and every sequence of calls; Morton numbers,
+//! blocks, extents and the fields of a word are the library's too. The wrapper gives the numbers types and ties a list
+//! to its slots. It needs no heap and no `std`, and does not panic. Each call checks the list it finds, one pass over
+//! its tiles. The calls as C has them are in [`raw`].
 
-#![deny(unsafe_code)]
+#![no_std]
+#![deny(unsafe_code, missing_docs)]
 
+#[cfg(test)]
+extern crate std;
+
+mod account;
+mod ask;
+mod bed;
+mod block;
 #[allow(unsafe_code)]
-pub mod ffi;
-mod map;
-mod place;
+pub mod raw;
 mod refusal;
 mod scan;
+mod tile;
 
-pub use map::Map;
-pub use place::{Account, Block, Pixel, Tile};
+pub use account::Account;
+pub use bed::Bed;
+pub use block::{Block, Pixel};
 pub use refusal::Refusal;
-pub use scan::{Kind, Scan, Stopped};
+pub use scan::{Kind, Stopped};
+pub use tile::{Shown, Tile, Tiles};
 
 /// Orders and sizes go from 0 to it.
+///
+/// ```
+/// use kingletbed::{Bed, Kind, HIGHEST_ORDER};
+/// assert!(Bed::fresh(Kind::Rows, HIGHEST_ORDER, [0; 4]).is_ok());
+/// assert!(Bed::fresh(Kind::Rows, HIGHEST_ORDER + 1, [0; 4]).is_err());
+/// ```
 pub const HIGHEST_ORDER: u32 = 10;
+
+/// The examples of the package's README are tested with the others.
+#[cfg(doctest)]
+#[doc = include_str!("../README.md")]
+struct Readme;

@@ -1,6 +1,6 @@
 //! Why a call refused.
 
-use std::fmt;
+use core::fmt;
 
 /// One table: name, number, words.
 macro_rules! refusals {
@@ -8,8 +8,8 @@ macro_rules! refusals {
         /// The check that was broken first. It prints in words.
         ///
         /// ```
-        /// use kingletbed::{Kind, Refusal, Scan};
-        /// let refusal = Scan::fresh(Kind::Rows, 11, &mut []).unwrap_err();
+        /// use kingletbed::{Bed, Kind, Refusal};
+        /// let refusal = Bed::fresh(Kind::Rows, 11, [0; 4]).unwrap_err();
         /// assert_eq!(refusal, Refusal::OrderTooLarge);
         /// assert_eq!(refusal.number(), 1);
         /// assert_eq!(refusal.to_string(), "the order is above 10");
@@ -28,6 +28,26 @@ macro_rules! refusals {
             /// assert_eq!(Refusal::ALL.len(), 21);
             /// ```
             pub const ALL: &'static [Refusal] = &[$(Refusal::$name,)*];
+
+            /// The refusal's name, as in the C header but for its `KB_`.
+            ///
+            /// ```
+            /// use kingletbed::Refusal;
+            /// assert_eq!(Refusal::SlotsExceeded.name(), "SLOTS_EXCEEDED");
+            /// ```
+            #[must_use]
+            pub const fn name(self) -> &'static str {
+                match self {
+                    $(Refusal::$name => {
+                        const LETTERS: [u8; header_length(stringify!($name))] = header_letters(stringify!($name));
+                        const NAME: &str = match core::str::from_utf8(&LETTERS) {
+                            Ok(name) => name,
+                            Err(_) => panic!("a name of the table has other letters than a to z"),
+                        };
+                        NAME
+                    })*
+                }
+            }
         }
 
         impl fmt::Display for Refusal {
@@ -62,9 +82,37 @@ refusals! {
     RosterWrong = 43, "the file's roster does not match its tiles";
 }
 
+/// How many letters the header's spelling of a name has: one more for each capital but the first.
+const fn header_length(name: &str) -> usize {
+    let (bytes, mut at, mut length) = (name.as_bytes(), 0, 0);
+    while at < bytes.len() {
+        length += if at > 0 && bytes[at].is_ascii_uppercase() { 2 } else { 1 };
+        at += 1;
+    }
+    length
+}
+
+/// The header's spelling of a name: in capitals, and an underscore ahead of each capital but the first.
+const fn header_letters<const LENGTH: usize>(name: &str) -> [u8; LENGTH] {
+    let (bytes, mut at, mut to, mut letters) = (name.as_bytes(), 0, 0, [b'_'; LENGTH]);
+    while at < bytes.len() {
+        to += if at > 0 && bytes[at].is_ascii_uppercase() { 1 } else { 0 };
+        letters[to] = bytes[at].to_ascii_uppercase();
+        at += 1;
+        to += 1;
+    }
+    letters
+}
+
 impl Refusal {
     /// The refusal's number, as in the C header.
-    pub fn number(self) -> u32 {
+    ///
+    /// ```
+    /// use kingletbed::Refusal;
+    /// assert_eq!(Refusal::SlotsExceeded.number(), 25);
+    /// ```
+    #[must_use]
+    pub const fn number(self) -> u32 {
         self as u32
     }
 
@@ -75,18 +123,47 @@ impl Refusal {
     /// assert_eq!(Refusal::from_number(25), Some(Refusal::SlotsExceeded));
     /// assert_eq!(Refusal::from_number(0), None);
     /// ```
+    #[must_use]
     pub fn from_number(number: u32) -> Option<Refusal> {
         Refusal::ALL.iter().copied().find(|refusal| refusal.number() == number)
     }
 
-    /// What the library answered, as a result.
+    /// What the library answered, as a result. It is proved to answer 0 or a number of the table. Should another
+    /// library be linked that answers a number between them, that is a refusal all the same, and reads as the one whose
+    /// number is next below: nothing here panics, and no refusal passes for an acceptance.
     pub(crate) fn outcome(number: u32) -> Result<(), Refusal> {
         match number {
             0 => Ok(()),
-            _ => Err(Refusal::from_number(number)
-                .unwrap_or_else(|| panic!("the library answered {number}, which this wrapper does not know"))),
+            _ => Err(Refusal::ALL
+                .iter()
+                .copied()
+                .rfind(|refusal| refusal.number() <= number)
+                .unwrap_or(Refusal::OrderTooLarge)),
         }
     }
 }
 
-impl std::error::Error for Refusal {}
+impl core::error::Error for Refusal {}
+
+#[cfg(test)]
+mod tests {
+    use super::Refusal;
+
+    /// A known number is its own refusal, and no other number but 0 is accepted.
+    #[test]
+    fn outcomes() {
+        assert_eq!(Refusal::outcome(0), Ok(()));
+        for number in 1..=44 {
+            let refusal = Refusal::outcome(number).expect_err("a refusal");
+            assert!(refusal.number() <= number);
+            assert_eq!(Refusal::from_number(number).unwrap_or(refusal), refusal);
+        }
+        assert_eq!(Refusal::outcome(u32::MAX), Err(Refusal::RosterWrong));
+    }
+
+    #[test]
+    fn names() {
+        assert_eq!(Refusal::OrderTooLarge.name(), "ORDER_TOO_LARGE");
+        assert!(Refusal::ALL.iter().all(|refusal| refusal.name().chars().all(|c| c == '_' || c.is_ascii_uppercase())));
+    }
+}

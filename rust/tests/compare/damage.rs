@@ -1,9 +1,9 @@
 //! Lists and files with something wrong in them, and every call on them.
 
-use crate::pair::Count;
+use crate::pair::{At, Count};
 use crate::plain::{area, file as plain_file, Record, Tile};
 use crate::random::{palette, Built, Random};
-use crate::sequences::{ask, block, AsMap};
+use crate::sequences::{ask, block};
 
 /// A list that may be bad.
 struct Bad {
@@ -12,9 +12,9 @@ struct Bad {
     slots: Vec<u32>,
 }
 
-impl AsMap for Bad {
-    fn map(&self) -> (u32, usize, &[u32]) {
-        (self.order, self.tiles, &self.slots)
+impl Bad {
+    fn at(&self) -> At<'_> {
+        (self.order, self.tiles, &self.slots).into()
     }
 }
 
@@ -35,9 +35,9 @@ pub fn list_case(random: &mut Random, count: &mut Count) {
         2 => bad.tiles = random.below(bad.slots.len() + 1),
         _ => {}
     }
-    count.check(bad.map());
+    count.check(bad.at());
     for _ in 0..4 {
-        ask(random, count, &bad);
+        ask(random, count, bad.at());
     }
     let most = area(bad.order.min(6)) as usize;
     let record = Record {
@@ -156,7 +156,8 @@ pub fn file(random: &mut Random, bytes: &mut Vec<u8>, tiles: usize) {
         2 => bytes.extend((0..random.between(1, 6)).map(|_| 0)),
         3 => bytes[0] = random.pick(&[0, 1, 2, 3, 10, 11, 128, 255]),
         4 if bytes.len() > 4 => {
-            let number = random.pick(&[0, tiles as u32 + 1, 0x4000_0000, 0x4000_0000 + tiles as u32, 0x8000_0000, u32::MAX]);
+            let number =
+                random.pick(&[0, tiles as u32 + 1, 0x4000_0000, 0x4000_0000 + tiles as u32, 0x8000_0000, u32::MAX]);
             bytes[1..5].copy_from_slice(&number.to_be_bytes());
         }
         5 if entries > 1 => {

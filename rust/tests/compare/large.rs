@@ -1,13 +1,14 @@
 //! Large beds: lists known by construction, by a rule of the bed, and by the plain implementation.
 
 use crate::damage;
-use crate::pair::Count;
+use crate::living::Living;
+use crate::pair::{kind_of, record_of, stopped, Count};
 use crate::plain::bed::Bed;
 use crate::plain::tally::Tally;
 use crate::plain::{area, left, Record};
 use crate::random::{palette, Built, Random};
 use crate::sequences::block;
-use kingletbed::ffi;
+use kingletbed::raw;
 
 const ORDER: u32 = 10;
 const SIDE: usize = 1 << ORDER;
@@ -37,22 +38,29 @@ fn in_scan_order(kind: u32, raster: &[u8]) -> Vec<u8> {
     (0..area(ORDER)).map(|place| raster[bed.index_of_place(place)]).collect()
 }
 
-/// Feeds in pieces of a length, with m slots: the number that stopped it, the pixels taken, the tile count after each piece, the slots.
+/// Feeds in pieces of a length, with m slots, by the raw calls and through a bed: the number that stopped it, the
+/// pixels taken, the tile count after each piece, the slots.
 fn fed(kind: u32, m: usize, accounts: &[u8], piece: usize) -> (u32, usize, Vec<usize>, Vec<u32>) {
     let mut slots = vec![u32::MAX; m];
-    let fresh = ffi::fresh(kind, ORDER, &mut slots);
+    let fresh = raw::fresh(kind, ORDER, &mut slots);
     assert_eq!((fresh.number, fresh.kind, fresh.order, fresh.pixels, fresh.tiles), (0, kind, ORDER, 0, 0));
-    let (mut pixels, mut tiles, mut counts, mut total) = (0, 0, Vec::new(), 0);
+    let mut bed = kingletbed::Bed::fresh(kind_of(kind), ORDER, vec![u32::MAX; m]).expect("order 10");
+    let (mut record, mut counts, mut total) = (record_of(&bed), Vec::new(), 0);
     for accounts in accounts.chunks(piece) {
-        let f = ffi::feed(kind, ORDER, pixels, tiles, &mut slots, accounts);
-        (pixels, tiles, total) = (f.pixels, f.tiles, total + f.taken);
-        counts.push(tiles);
-        assert_eq!((f.kind, f.order, pixels as usize), (kind, ORDER, total));
+        let f = raw::feed(kind, ORDER, record.pixels, record.tiles, &mut slots, accounts);
+        record = Record { kind: f.kind, order: f.order, pixels: f.pixels, tiles: f.tiles };
+        total += f.taken;
+        counts.push(f.tiles);
+        assert_eq!((f.kind, f.order, f.pixels as usize), (kind, ORDER, total));
+        assert_eq!(stopped(bed.feed(accounts), accounts), (f.number, f.taken), "a feed of a bed");
+        assert_eq!(record_of(&bed), record, "a bed after a feed");
         if f.number != 0 {
+            assert!(bed.slots() == slots, "the slots of a bed whose feed was stopped");
             return (f.number, total, counts, slots);
         }
         assert_eq!(f.taken, accounts.len(), "a feed that is not refused takes all");
     }
+    assert!(bed.slots() == slots, "the slots of a bed");
     (0, total, counts, slots)
 }
 
@@ -63,7 +71,8 @@ fn course(kind: u32, accounts: &[u8]) -> Vec<usize> {
     accounts.iter().enumerate().map(|(place, &account)| tally.set(bed.index_of_place(place as u64), account)).collect()
 }
 
-/// Scans a bed whose list is known, with enough slots at once and in pieces, then with just enough and with one too few.
+/// Scans a bed whose list is known, with enough slots at once and in pieces, then with just enough and with one too
+/// few.
 fn scans(raster: &[u8], words: &[u32], kind: u32, piece: usize) {
     let accounts = in_scan_order(kind, raster);
     let counts = course(kind, &accounts);
@@ -104,20 +113,19 @@ fn others(random: &mut Random, count: &mut Count, raster: &[u8], words: &[u32]) 
         count.rights(at, column as u32, row as u32, random.between(1, 63) as u8);
         let (corner, size) = block(random, ORDER);
         count.part(at, corner, size);
+        count.shown(at, corner, size);
     }
     let (number, file) = count.write(at, &vec![0xaa; 6 + 4 * words.len() + 5 * 63]);
     assert_eq!(number, 0);
     let mut slots = vec![1; words.len() + 100];
     assert_eq!(count.read(&file, &mut slots), (0, ORDER, words.len()));
     assert!(slots[..words.len()] == *words, "a large file read back");
-    let mut tiles = words.len();
+    let mut living = Living::of_list(ORDER, words.len(), &slots);
     for _ in 0..3 {
         let (corner, size) = block(random, ORDER);
-        let (number, after) = count.claim((ORDER, tiles), &mut slots, corner, size, random.below(64) as u8);
-        tiles = if number == 0 { after } else { tiles };
+        living.claim(count, corner, size, random.below(64) as u8);
     }
-    let record = Record { kind: 0, order: ORDER, pixels: PIXELS as u32, tiles };
-    count.feed(record, &mut slots, &[1]);
+    assert_eq!(living.feed(count, &[1]), (23, 0));
     let mut bad = words.to_vec();
     damage::list(random, &mut bad, ORDER);
     count.check((ORDER, bad.len(), &bad));
@@ -142,7 +150,8 @@ pub fn patterns(random: &mut Random, count: &mut Count) {
     };
     let (boards, noise) = (boards(random), noise(random));
     let (of_boards, of_noise) = (plain(&boards), plain(&noise));
-    let beds = [(uniform, vec![703]), (checkerboard, alternate), (stripes, single), (boards, of_boards), (noise, of_noise)];
+    let beds =
+        [(uniform, vec![703]), (checkerboard, alternate), (stripes, single), (boards, of_boards), (noise, of_noise)];
     for (raster, words) in beds {
         assert!(plain(&raster) == words, "the plain blocks of a bed known by its rule");
         // Every feed looks at the whole list: row by row where it is short.

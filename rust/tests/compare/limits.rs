@@ -1,5 +1,6 @@
 //! Every combination of arguments at and past their limits on a few maps, and every bed of order 1 of three accounts.
 
+use crate::living::Living;
 use crate::pair::Count;
 use crate::plain::bed::Bed;
 use crate::plain::{area, left, Record};
@@ -31,6 +32,7 @@ pub fn all(count: &mut Count) {
             count.check((order, tiles, &slots));
             count.lookup((order, tiles, &slots), 3, 1);
             count.part((order, tiles, &slots), 4, 1);
+            count.shown((order, tiles, &slots), 12, 0);
             count.rights((order, tiles, &slots), 3, 1, 9);
             count.decode((order, tiles, &slots), &[0xaa; 16]);
             count.write((order, tiles, &slots), &[0xaa; 40]);
@@ -67,10 +69,12 @@ fn points(count: &mut Count, order: u32, words: &[u32]) {
 
 fn blocks(count: &mut Count, order: u32, words: &[u32]) {
     let end = area(order) as u32;
-    let corners = [0, 1, 3, 4, end / 4, end - 1, end, end + 4, 1 << 20, 1 << 22, 1 << 30, 1 << 31, u32::MAX - 3, u32::MAX];
+    let corners =
+        [0, 1, 3, 4, end / 4, end - 1, end, end + 4, 1 << 20, 1 << 22, 1 << 30, 1 << 31, u32::MAX - 3, u32::MAX];
     for corner in corners {
         for size in [0, 1, order.saturating_sub(1), order, order + 1, 10, 11, 15, 16, 31, 32, 33, 1 << 31, u32::MAX] {
             count.part((order, words.len(), words), corner, size);
+            count.shown((order, words.len(), words), corner, size);
             // Each accepted claim on a bed of order 10 costs the plain bed a million pixels.
             let claims = &[(63, 40), (0, 0), (1, 2), (64, 0)][..if order < 10 { 4 } else { 1 }];
             for &(account, room) in claims {
@@ -132,16 +136,17 @@ fn order_one(count: &mut Count) {
     for bed in 0..81u32 {
         let accounts: Vec<u8> = (0..4).map(|place| (bed / 3u32.pow(place) % 3) as u8).collect();
         for (kind, m) in (0..2).flat_map(|kind| (0..5).map(move |m| (kind, m))) {
-            let mut slots = vec![9; m];
-            let (_, fresh) = count.fresh(kind, 1, &mut slots);
-            let (number, taken, record) = count.feed(fresh, &mut slots, &accounts);
+            let mut living = Living::unmade(Record { kind, order: 1, pixels: 0, tiles: 0 }, vec![9; m]);
+            living.fresh(count, kind, 1);
+            let answer = living.feed(count, &accounts);
             let mut plain = Bed::fresh(kind, 1).expect("order 1");
-            assert_eq!(plain.feed(m, &accounts), (number, taken));
-            assert_eq!(left(m, &plain.blocks()), slots);
+            assert_eq!(plain.feed(m, &accounts), answer);
+            assert_eq!(left(m, &plain.blocks()), living.slots);
             for (corner, size) in [(0, 0), (1, 0), (2, 0), (3, 0), (0, 1)] {
                 for account in 0..3 {
-                    count.claim((1, record.tiles), &mut slots.clone(), corner, size, account);
-                    count.part((1, record.tiles, &slots), corner, size);
+                    count.claim((1, living.record.tiles), &mut living.slots.clone(), corner, size, account);
+                    count.part(living.at(), corner, size);
+                    count.shown(living.at(), corner, size);
                 }
             }
         }

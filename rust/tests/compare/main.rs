@@ -1,16 +1,21 @@
-//! Compares the library with the plain implementation: answers and storage, refusals included.
+//! Compares the library's raw calls and its beds with the plain implementation: answers and storage, refusals
+//! included.
 //!
 //!     cargo test --test compare                                 half a minute of random cases
 //!     cargo test --test compare -- --seconds 3600               longer
 //!     cargo test --test compare -- --seed 12345                 the same cases again
-//!     cargo test --test compare -- --part lists --case 678      one case again, as a failure prints it
+//!     cargo test --test compare -- --group lists --case 678     one case again, as a failure prints it
 
 mod damage;
+mod equal;
 mod large;
+mod lent;
 mod limits;
+mod living;
 mod pair;
 #[path = "../plain/mod.rs"]
 mod plain;
+mod points;
 mod random;
 mod sequences;
 mod worked;
@@ -22,38 +27,41 @@ use std::time::{Duration, Instant, SystemTime};
 
 type Case = fn(&mut Random, &mut Count);
 
-/// A part of the comparison: its cases are run in rounds of so many.
-struct Part {
+/// A group of cases; they come in rounds of so many.
+struct Group {
     name: &'static str,
     case: Case,
     round: usize,
 }
 
-/// Run once, first.
-const ONCE: [Part; 3] = [
-    Part { name: "worked", case: |_, count| worked::lines(count), round: 1 },
-    Part { name: "limits", case: |_, count| limits::all(count), round: 1 },
-    Part { name: "patterns", case: large::patterns, round: 1 },
+/// Once, first.
+const ONCE: [Group; 4] = [
+    Group { name: "worked", case: |_, count| worked::lines(count), round: 1 },
+    Group { name: "limits", case: |_, count| limits::all(count), round: 1 },
+    Group { name: "every-point", case: |_, count| points::all(count), round: 1 },
+    Group { name: "patterns", case: large::patterns, round: 1 },
 ];
 
-/// Run round after round until the time is over.
-const ROUNDS: [Part; 4] = [
-    Part { name: "sequences", case: sequences::case, round: 1000 },
-    Part { name: "lists", case: damage::list_case, round: 5000 },
-    Part { name: "files", case: damage::file_case, round: 5000 },
-    Part { name: "large", case: large::case, round: 1 },
+/// Round after round until the time is over.
+const ROUNDS: [Group; 6] = [
+    Group { name: "sequences", case: sequences::case, round: 1000 },
+    Group { name: "lists", case: damage::list_case, round: 5000 },
+    Group { name: "files", case: damage::file_case, round: 5000 },
+    Group { name: "points", case: points::case, round: 5000 },
+    Group { name: "equal", case: equal::case, round: 1000 },
+    Group { name: "large", case: large::case, round: 1 },
 ];
 
 struct Options {
     seconds: u64,
     seed: u64,
-    part: Option<String>,
+    group: Option<String>,
     case: Option<u64>,
 }
 
 fn options() -> Options {
     let now = SystemTime::now().duration_since(SystemTime::UNIX_EPOCH).expect("a clock past 1970");
-    let mut options = Options { seconds: 30, seed: now.as_nanos() as u64 % 1_000_000_007, part: None, case: None };
+    let mut options = Options { seconds: 30, seed: now.as_nanos() as u64 % 1_000_000_007, group: None, case: None };
     let mut arguments = std::env::args().skip(1);
     while let Some(argument) = arguments.next() {
         let mut number = || arguments.next().and_then(|text| text.parse().ok()).unwrap_or_else(|| usage());
@@ -61,7 +69,7 @@ fn options() -> Options {
             "--seconds" => options.seconds = number(),
             "--seed" => options.seed = number(),
             "--case" => options.case = Some(number()),
-            "--part" => options.part = Some(arguments.next().unwrap_or_else(|| usage())),
+            "--group" => options.group = Some(arguments.next().unwrap_or_else(|| usage())),
             _ => usage(),
         }
     }
@@ -69,40 +77,40 @@ fn options() -> Options {
 }
 
 fn usage() -> ! {
-    eprintln!("compare [--seconds N] [--seed N] [--part NAME [--case N]]");
+    eprintln!("compare [--seconds N] [--seed N] [--group NAME [--case N]]");
     std::process::exit(2)
 }
 
 /// Runs one case from its own seed; a difference ends the program with the line that runs it again.
-fn run(part: &Part, seed: u64, count: &mut Count) {
+fn run(group: &Group, seed: u64, count: &mut Count) {
     let mut random = Random::new(seed);
-    if catch_unwind(AssertUnwindSafe(|| (part.case)(&mut random, count))).is_err() {
-        println!("compare: FAILED; again by: cargo test --test compare -- --part {} --case {seed}", part.name);
+    if catch_unwind(AssertUnwindSafe(|| (group.case)(&mut random, count))).is_err() {
+        println!("compare: FAILED; again by: cargo test --test compare -- --group {} --case {seed}", group.name);
         std::process::exit(1);
     }
 }
 
 fn main() {
     let options = options();
-    let chosen = |part: &&Part| options.part.as_ref().is_none_or(|name| name == part.name);
+    let chosen = |group: &&Group| options.group.as_ref().is_none_or(|name| name == group.name);
     let mut count = Count::default();
     if let Some(seed) = options.case {
-        ONCE.iter().chain(&ROUNDS).filter(chosen).for_each(|part| run(part, seed, &mut count));
+        ONCE.iter().chain(&ROUNDS).filter(chosen).for_each(|group| run(group, seed, &mut count));
         println!("compare: the case passed");
         return;
     }
     println!("compare: seed {}, {} seconds", options.seed, options.seconds);
     let mut seeds = Random::new(options.seed);
     let begin = Instant::now();
-    for part in ONCE.iter().filter(chosen) {
-        run(part, seeds.next() >> 1, &mut count);
+    for group in ONCE.iter().filter(chosen) {
+        run(group, seeds.next() >> 1, &mut count);
     }
     let mut cases = 0u64;
     let end = Duration::from_secs(options.seconds);
-    while ROUNDS.iter().any(|part| chosen(&part)) {
-        for part in ROUNDS.iter().filter(chosen) {
-            for _ in 0..part.round {
-                run(part, seeds.next() >> 1, &mut count);
+    while ROUNDS.iter().any(|group| chosen(&group)) {
+        for group in ROUNDS.iter().filter(chosen) {
+            for _ in 0..group.round {
+                run(group, seeds.next() >> 1, &mut count);
                 cases += 1;
             }
         }
@@ -112,7 +120,7 @@ fn main() {
     }
     let met: Vec<String> = count.numbers.iter().map(|(number, times)| format!("{number}: {times}")).collect();
     println!("compare: {cases} random cases, {} calls alike; numbers met: {}", count.calls, met.join(", "));
-    if options.part.is_none() {
+    if options.group.is_none() {
         let missing: Vec<u32> =
             kingletbed::Refusal::ALL.iter().map(|r| r.number()).filter(|n| !count.numbers.contains_key(n)).collect();
         if !missing.is_empty() {

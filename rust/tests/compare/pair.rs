@@ -1,8 +1,12 @@
-//! Each call made on the library, on its wrapper and on the plain implementation; answers and storage must be the same. A difference
-//! panics with the call and both sides.
+//! Each call made on the raw call, on a bed and on the plain implementation; answers and storage must be
+//! the same. A difference panics with the call and both sides.
+//!
+//! A bed cannot be put together from any numbers: where the list checks refuse them there is none, and its making must
+//! answer that refusal. A record that is not one of a bed goes to the raw call alone.
 
-use crate::plain::{list, Record};
-use kingletbed::{ffi, Account, Block, Kind, Map, Pixel, Scan};
+use crate::lent::{Brief, Lent};
+use crate::plain::{area, list, Record, Tile};
+use kingletbed::{raw, Account, Bed, Block, Kind, Pixel, Refusal};
 use std::collections::BTreeMap;
 use std::fmt::Debug;
 
@@ -14,105 +18,226 @@ pub struct Count {
 }
 
 impl Count {
-    fn add(&mut self, number: u32) {
+    pub fn add(&mut self, number: u32) {
         self.calls += 1;
         *self.numbers.entry(number).or_default() += 1;
     }
 }
 
-/// A slice that prints shortly.
-struct Brief<'a, T>(&'a [T]);
-
-impl<T: Debug> Debug for Brief<'_, T> {
-    fn fmt(&self, f: &mut std::fmt::Formatter) -> std::fmt::Result {
-        const MOST: usize = 300;
-        write!(f, "{} {:?}", self.0.len(), &self.0[..self.0.len().min(MOST)])?;
-        f.write_str(if self.0.len() > MOST { " and more" } else { "" })
-    }
-}
-
-/// Storage lent to the library, with a guard on either side that must not change.
-struct Lent<T> {
-    all: Vec<T>,
-    guard: T,
-}
-
-const GUARD: usize = 4;
-
-impl<T: Copy + PartialEq + Debug> Lent<T> {
-    fn new(items: &[T], guard: T) -> Lent<T> {
-        let mut all = vec![guard; GUARD];
-        all.extend_from_slice(items);
-        all.extend(vec![guard; GUARD]);
-        Lent { all, guard }
-    }
-
-    fn slice(&mut self) -> &mut [T] {
-        let end = self.all.len() - GUARD;
-        &mut self.all[GUARD..end]
-    }
-
-    fn must_be(&self, call: &str, given: &dyn Debug, expected: &[T]) {
-        let end = self.all.len() - GUARD;
-        let guards = self.all[..GUARD].iter().chain(&self.all[end..]);
-        assert!(guards.into_iter().all(|&item| item == self.guard), "{call} wrote outside the lent storage\n  given {given:?}");
-        let got = &self.all[GUARD..end];
-        if let Some(at) = (0..expected.len()).find(|&at| got[at] != expected[at]) {
-            let show = |items: &[T]| format!("{:?}", &items[at.saturating_sub(4)..items.len().min(at + 8)]);
-            panic!("{call}: storage differs at {at}\n  library {}\n  plain   {}\n  given {given:?}", show(got), show(expected));
-        }
-    }
-}
-
-fn same<T: PartialEq + Debug>(call: &str, given: &dyn Debug, library: T, plain: T) {
+pub fn same<T: PartialEq + Debug>(call: &str, given: &dyn Debug, library: T, plain: T) {
     assert!(library == plain, "{call}: answers differ\n  library {library:?}\n  plain   {plain:?}\n  given {given:?}");
 }
 
 /// The wrapper's result as a number and what it holds, or nothing.
-fn flat<T>(result: Result<T, kingletbed::Refusal>) -> (u32, Option<T>) {
+pub fn flat<T>(result: Result<T, Refusal>) -> (u32, Option<T>) {
     match result {
         Ok(value) => (0, Some(value)),
         Err(refusal) => (refusal.number(), None),
     }
 }
 
-fn some<T>(number: u32, value: T) -> (u32, Option<T>) {
+pub fn some<T>(number: u32, value: T) -> (u32, Option<T>) {
     (number, if number == 0 { Some(value) } else { None })
 }
 
-const WORD_GUARD: u32 = 0xa5c3_961e;
-const BYTE_GUARD: u8 = 0xa5;
-
-fn typed(record: Record) -> Scan {
-    let kind = if record.kind == 0 { Kind::Rows } else { Kind::Morton };
-    Scan { kind, order: record.order, pixels: record.pixels, tiles: record.tiles }
+pub fn kind_of(number: u32) -> Kind {
+    if number == 0 {
+        Kind::Rows
+    } else {
+        Kind::Morton
+    }
 }
 
-/// A map: order, tile count and slots.
-pub type At<'a> = (u32, usize, &'a [u32]);
+/// A bed's record.
+pub fn record_of<S: AsRef<[u32]>>(bed: &Bed<S>) -> Record {
+    let kind = if bed.kind() == Kind::Rows { 0 } else { 1 };
+    Record { kind, order: bed.order(), pixels: bed.scanned(), tiles: bed.words().len() }
+}
 
+pub fn tile_of(tile: kingletbed::Tile) -> Tile {
+    Tile { corner: tile.corner().into(), size: tile.size(), account: tile.account().0 }
+}
+
+/// A map to ask: order, tile count and slots, and the bed that has them, where one lives on.
+#[derive(Clone, Copy)]
+pub struct At<'a> {
+    pub order: u32,
+    pub tiles: usize,
+    pub slots: &'a [u32],
+    pub held: Option<&'a Bed<Lent<u32>>>,
+}
+
+impl<'a, T: AsRef<[u32]> + ?Sized> From<(u32, usize, &'a T)> for At<'a> {
+    fn from((order, tiles, slots): (u32, usize, &'a T)) -> At<'a> {
+        At { order, tiles, slots: slots.as_ref(), held: None }
+    }
+}
+
+impl Debug for At<'_> {
+    fn fmt(&self, f: &mut std::fmt::Formatter) -> std::fmt::Result {
+        write!(
+            f,
+            "order {}, {} tiles, slots {:?}, held {}",
+            self.order,
+            self.tiles,
+            Brief(self.slots),
+            self.held.is_some()
+        )
+    }
+}
+
+impl<'a> At<'a> {
+    /// The beds to ask: one made of the slots, and the one that lives on.
+    fn beds(self) -> impl Iterator<Item = Result<Bed<&'a [u32]>, Refusal>> {
+        let made = Bed::from_slots(self.order, self.tiles, self.slots);
+        std::iter::once(made).chain(self.held.map(|bed| Ok(bed.view())))
+    }
+}
+
+/// The calls that change nothing.
 impl Count {
-    pub fn check(&mut self, (order, tiles, slots): At) -> u32 {
-        let given = (order, tiles, Brief(slots));
-        let plain = list::check(order, tiles, slots);
-        same("check", &given, ffi::check(order, tiles, slots), plain);
-        same("check, typed", &given, flat(Map { order, tiles }.check(slots)), some(plain, ()));
+    pub fn check<'a>(&mut self, at: impl Into<At<'a>>) -> u32 {
+        let at = at.into();
+        let plain = list::check(at.order, at.tiles, at.slots);
+        same("check", &at, raw::check(at.order, at.tiles, at.slots), plain);
+        let record = Record { kind: 0, order: at.order, pixels: area(at.order.min(10)) as u32, tiles: at.tiles };
+        let made = Bed::from_slots(at.order, at.tiles, at.slots);
+        same("from_slots", &at, flat(made.as_ref().map(record_of).map_err(|&refusal| refusal)), some(plain, record));
+        if let Ok(bed) = made {
+            same("words", &at, bed.words(), &at.slots[..at.tiles]);
+            let tiles = at.slots[..at.tiles].iter().map(|&word| Tile::of_word(word));
+            assert!(bed.tiles().map(tile_of).eq(tiles), "tiles\n  given {at:?}");
+            same("side and pixels", &at, (bed.side(), bed.pixels()), (1 << at.order, record.pixels));
+        }
         self.add(plain);
         plain
     }
 
+    pub fn decode<'a>(&mut self, at: impl Into<At<'a>>, raster: &[u8]) -> (u32, Vec<u8>) {
+        let at = at.into();
+        let given = (at, raster.len());
+        let (number, after) = list::decode(at.order, at.tiles, at.slots, raster);
+        let mut lent = Lent::new(raster);
+        same("decode", &given, raw::decode(at.order, at.tiles, at.slots, lent.as_mut()), number);
+        lent.must_be("decode", &given, &after);
+        for bed in at.beds() {
+            let mut lent = Lent::new(raster);
+            same("decode of a bed", &given, flat(bed.and_then(|bed| bed.decode(lent.as_mut()))), some(number, ()));
+            lent.must_be("decode of a bed", &given, &after);
+        }
+        self.add(number);
+        (number, after)
+    }
+
+    pub fn lookup<'a>(&mut self, at: impl Into<At<'a>>, column: u32, row: u32) -> (u32, u8) {
+        let at = at.into();
+        let given = (at, column, row);
+        let plain = list::lookup(at.order, at.tiles, at.slots, column, row);
+        let answer = raw::lookup(at.order, at.tiles, at.slots, column, row);
+        same("lookup", &given, (answer.number, answer.account), plain);
+        for bed in at.beds() {
+            let wrapped = bed.and_then(|bed| bed.lookup(Pixel { column, row }));
+            same("lookup of a bed", &given, flat(wrapped), some(plain.0, Account(plain.1)));
+        }
+        self.add(plain.0);
+        plain
+    }
+
+    pub fn part<'a>(&mut self, at: impl Into<At<'a>>, corner: u32, size: u32) -> (u32, usize, usize) {
+        let at = at.into();
+        let given = (at, corner, size);
+        let plain = list::part(at.order, at.tiles, at.slots, corner, size);
+        let answer = raw::part(at.order, at.tiles, at.slots, corner, size);
+        same("part", &given, (answer.number, answer.position, answer.length), plain);
+        for bed in at.beds() {
+            // Where in the bed's own slots the part begins, in bytes.
+            let from = |bed: &Bed<&[u32]>, part: &[u32]| part.as_ptr() as usize - bed.slots().as_ptr() as usize;
+            let wrapped =
+                bed.and_then(|bed| bed.part(Block { corner, size }).map(|part| (from(&bed, part), part.len())));
+            same("part of a bed", &given, flat(wrapped), some(plain.0, (4 * plain.1, plain.2)));
+        }
+        self.add(plain.0);
+        plain
+    }
+
+    /// What a block shows: the tiles that a bed of it alone would have, and painted they are its accounts.
+    pub fn shown<'a>(&mut self, at: impl Into<At<'a>>, corner: u32, size: u32) -> (u32, Vec<Tile>) {
+        let at = at.into();
+        let given = (at, corner, size);
+        let (number, tiles, accounts) = list::shown(at.order, at.tiles, at.slots, corner, size);
+        let words: Vec<u32> = tiles.iter().map(|tile| tile.word()).collect();
+        for bed in at.beds() {
+            let wrapped = bed.and_then(|bed| {
+                let shown = bed.shown(Block { corner, size })?;
+                let mut back: Vec<Tile> = shown.clone().rev().map(tile_of).collect();
+                back.reverse();
+                same("shown, from its end", &given, (shown.len(), &back), (tiles.len(), &tiles));
+                let mut painted = vec![0; accounts.len()];
+                for tile in shown.clone() {
+                    let from = (tile.corner() - corner) as usize;
+                    painted[from..from + area(tile.size()) as usize].fill(tile.account().0);
+                }
+                assert!(painted == accounts, "shown: the block painted\n  given {given:?}");
+                Ok(shown.map(|tile| tile.word()).collect::<Vec<u32>>())
+            });
+            same("shown of a bed", &given, flat(wrapped), some(number, words.clone()));
+        }
+        self.add(number);
+        (number, tiles)
+    }
+
+    pub fn rights<'a>(&mut self, at: impl Into<At<'a>>, column: u32, row: u32, asking: u8) -> (u32, bool) {
+        let at = at.into();
+        let given = (at, column, row, asking);
+        let plain = list::rights(at.order, at.tiles, at.slots, column, row, asking);
+        let answer = raw::rights(at.order, at.tiles, at.slots, column, row, asking);
+        same("rights", &given, (answer.number, answer.yes), (plain.0, u8::from(plain.1)));
+        for bed in at.beds() {
+            let wrapped = bed.and_then(|bed| bed.rights(Pixel { column, row }, Account(asking)));
+            same("rights on a bed", &given, flat(wrapped), some(plain.0, plain.1));
+        }
+        self.add(plain.0);
+        plain
+    }
+
+    /// The number and, accepted, the file.
+    pub fn write<'a>(&mut self, at: impl Into<At<'a>>, bytes: &[u8]) -> (u32, Vec<u8>) {
+        let at = at.into();
+        let given = (at, bytes.len());
+        let (number, length, after) = list::write(at.order, at.tiles, at.slots, bytes);
+        let mut lent = Lent::new(bytes);
+        let answer = raw::write(at.order, at.tiles, at.slots, lent.as_mut());
+        same("write", &given, (answer.number, answer.length), (number, length));
+        lent.must_be("write", &given, &after);
+        for bed in at.beds() {
+            let mut lent = Lent::new(bytes);
+            let wrapped = bed.and_then(|bed| {
+                assert!(length <= bed.file_room(), "the room of a file");
+                bed.write(lent.as_mut())
+            });
+            same("write of a bed", &given, flat(wrapped), some(number, length));
+            lent.must_be("write of a bed", &given, &after);
+        }
+        self.add(number);
+        (number, after[..length].to_vec())
+    }
+}
+
+/// The calls that write slots. A bed is made for the call here; `living.rs` has those that go through many calls.
+impl Count {
     pub fn fresh(&mut self, kind: u32, order: u32, slots: &mut Vec<u32>) -> (u32, Record) {
         let before = slots.clone();
         let given = (kind, order, Brief(&before));
         let (number, record, after) = list::fresh(kind, order, slots);
-        let mut lent = Lent::new(slots, WORD_GUARD);
-        let f = ffi::fresh(kind, order, lent.slice());
+        let mut lent = Lent::new(slots);
+        let f = raw::fresh(kind, order, lent.as_mut());
         let got = Record { kind: f.kind, order: f.order, pixels: f.pixels, tiles: f.tiles };
         same("fresh", &given, (f.number, got), (number, record));
         lent.must_be("fresh", &given, &after);
-        let mut again = Lent::new(slots, WORD_GUARD);
-        same("fresh, typed", &given, flat(Scan::fresh(typed(record).kind, order, again.slice())), some(number, typed(record)));
-        again.must_be("fresh, typed", &given, &after);
+        let mut lent = Lent::new(slots);
+        let wrapped = Bed::fresh(kind_of(kind), order, lent.as_mut()).map(|bed| record_of(&bed));
+        same("fresh of a bed", &given, flat(wrapped), some(number, record));
+        lent.must_be("fresh of a bed", &given, &after);
         *slots = after;
         self.add(number);
         (number, record)
@@ -122,118 +247,76 @@ impl Count {
         let before = slots.clone();
         let given = (record, Brief(&before), Brief(accounts));
         let (number, taken, next, after) = list::feed(record, slots, accounts);
-        let mut lent = Lent::new(slots, WORD_GUARD);
-        let f = ffi::feed(record.kind, record.order, record.pixels, record.tiles, lent.slice(), accounts);
+        let mut lent = Lent::new(slots);
+        let f = raw::feed(record.kind, record.order, record.pixels, record.tiles, lent.as_mut(), accounts);
         let got = Record { kind: f.kind, order: f.order, pixels: f.pixels, tiles: f.tiles };
         same("feed", &given, (f.number, f.taken, got), (number, taken, next));
         lent.must_be("feed", &given, &after);
-        let mut again = Lent::new(slots, WORD_GUARD);
-        let (refused, counted, scan) = match typed(record).feed(again.slice(), accounts) {
-            Ok(scan) => (0, accounts.len(), scan),
-            Err(stopped) => (stopped.refusal.number(), stopped.taken, stopped.scan),
-        };
-        same("feed, typed", &given, (refused, counted, scan), (number, taken, typed(next)));
-        again.must_be("feed, typed", &given, &after);
+        let mut lent = Lent::new(slots);
+        if let Ok(mut bed) = Bed::from_slots(record.order, record.tiles, lent.as_mut()) {
+            if record_of(&bed) == record {
+                let (refused, counted) = stopped(bed.feed(accounts), accounts);
+                same("feed of a bed", &given, (refused, counted, record_of(&bed)), (number, taken, next));
+                lent.must_be("feed of a bed", &given, &after);
+            }
+        }
         *slots = after;
         self.add(number);
         (number, taken, next)
     }
 
-    pub fn decode(&mut self, (order, tiles, slots): At, raster: &[u8]) -> (u32, Vec<u8>) {
-        let given = (order, tiles, Brief(slots), raster.len());
-        let (number, after) = list::decode(order, tiles, slots, raster);
-        let mut lent = Lent::new(raster, BYTE_GUARD);
-        same("decode", &given, ffi::decode(order, tiles, slots, lent.slice()), number);
-        lent.must_be("decode", &given, &after);
-        let mut again = Lent::new(raster, BYTE_GUARD);
-        same("decode, typed", &given, flat(Map { order, tiles }.decode(slots, again.slice())), some(number, ()));
-        again.must_be("decode, typed", &given, &after);
-        self.add(number);
-        (number, after)
-    }
-
-    pub fn lookup(&mut self, (order, tiles, slots): At, column: u32, row: u32) -> (u32, u8) {
-        let given = (order, tiles, Brief(slots), column, row);
-        let plain = list::lookup(order, tiles, slots, column, row);
-        let f = ffi::lookup(order, tiles, slots, column, row);
-        same("lookup", &given, (f.number, f.account), plain);
-        let wrapped = Map { order, tiles }.lookup(slots, Pixel { column, row });
-        same("lookup, typed", &given, flat(wrapped), some(plain.0, Account(plain.1)));
-        self.add(plain.0);
-        plain
-    }
-
-    pub fn part(&mut self, (order, tiles, slots): At, corner: u32, size: u32) -> (u32, usize, usize) {
-        let given = (order, tiles, Brief(slots), corner, size);
-        let plain = list::part(order, tiles, slots, corner, size);
-        let f = ffi::part(order, tiles, slots, corner, size);
-        same("part", &given, (f.number, f.position, f.length), plain);
-        let wrapped = Map { order, tiles }.part(slots, Block { corner, size });
-        let place = |part: &[u32]| (part.as_ptr(), part.len());
-        let expected = some(plain.0, &slots[plain.1..plain.1 + plain.2]);
-        same("part, typed", &given, (flat(wrapped).0, wrapped.ok().map(place)), (expected.0, expected.1.map(place)));
-        self.add(plain.0);
-        plain
-    }
-
-    pub fn rights(&mut self, (order, tiles, slots): At, column: u32, row: u32, asking: u8) -> (u32, bool) {
-        let given = (order, tiles, Brief(slots), column, row, asking);
-        let plain = list::rights(order, tiles, slots, column, row, asking);
-        let f = ffi::rights(order, tiles, slots, column, row, asking);
-        same("rights", &given, (f.number, f.yes), (plain.0, u8::from(plain.1)));
-        let wrapped = Map { order, tiles }.rights(slots, Pixel { column, row }, Account(asking));
-        same("rights, typed", &given, flat(wrapped), some(plain.0, plain.1));
-        self.add(plain.0);
-        plain
-    }
-
     /// The number and the tile count.
-    pub fn claim(&mut self, at: (u32, usize), slots: &mut Vec<u32>, corner: u32, size: u32, account: u8) -> (u32, usize) {
+    pub fn claim(
+        &mut self,
+        at: (u32, usize),
+        slots: &mut Vec<u32>,
+        corner: u32,
+        size: u32,
+        account: u8,
+    ) -> (u32, usize) {
         let (order, tiles) = at;
         let before = slots.clone();
         let given = (order, tiles, Brief(&before), corner, size, account);
         let (number, count, after) = list::claim(order, tiles, slots, corner, size, account);
-        let mut lent = Lent::new(slots, WORD_GUARD);
-        let f = ffi::claim(order, tiles, lent.slice(), corner, size, account);
-        same("claim", &given, (f.number, f.tiles), (number, count));
+        let mut lent = Lent::new(slots);
+        let answer = raw::claim(order, tiles, lent.as_mut(), corner, size, account);
+        same("claim", &given, (answer.number, answer.tiles), (number, count));
         lent.must_be("claim", &given, &after);
-        let mut again = Lent::new(slots, WORD_GUARD);
-        let wrapped = Map { order, tiles }.claim(again.slice(), Block { corner, size }, Account(account));
-        same("claim, typed", &given, flat(wrapped), some(number, Map { order, tiles: count }));
-        again.must_be("claim, typed", &given, &after);
+        let mut lent = Lent::new(slots);
+        let wrapped = Bed::from_slots(order, tiles, lent.as_mut()).and_then(|mut bed| {
+            bed.claim(Block { corner, size }, Account(account))?;
+            Ok(bed.words().len())
+        });
+        same("claim of a bed", &given, flat(wrapped), some(number, count));
+        lent.must_be("claim of a bed", &given, &after);
         *slots = after;
         self.add(number);
         (number, count)
-    }
-
-    /// The number and, accepted, the file.
-    pub fn write(&mut self, (order, tiles, slots): At, bytes: &[u8]) -> (u32, Vec<u8>) {
-        let given = (order, tiles, Brief(slots), bytes.len());
-        let (number, length, after) = list::write(order, tiles, slots, bytes);
-        let mut lent = Lent::new(bytes, BYTE_GUARD);
-        let f = ffi::write(order, tiles, slots, lent.slice());
-        same("write", &given, (f.number, f.length), (number, length));
-        lent.must_be("write", &given, &after);
-        let mut again = Lent::new(bytes, BYTE_GUARD);
-        same("write, typed", &given, flat(Map { order, tiles }.write(slots, again.slice())), some(number, length));
-        again.must_be("write, typed", &given, &after);
-        self.add(number);
-        (number, after[..length].to_vec())
     }
 
     pub fn read(&mut self, bytes: &[u8], slots: &mut Vec<u32>) -> (u32, u32, usize) {
         let before = slots.clone();
         let given = (Brief(bytes), Brief(&before));
         let (number, order, tiles, after) = list::read(bytes, slots);
-        let mut lent = Lent::new(slots, WORD_GUARD);
-        let f = ffi::read(bytes, lent.slice());
-        same("read", &given, (f.number, f.order, f.tiles), (number, order, tiles));
+        let mut lent = Lent::new(slots);
+        let answer = raw::read(bytes, lent.as_mut());
+        same("read", &given, (answer.number, answer.order, answer.tiles), (number, order, tiles));
         lent.must_be("read", &given, &after);
-        let mut again = Lent::new(slots, WORD_GUARD);
-        same("read, typed", &given, flat(Map::read(bytes, again.slice())), some(number, Map { order, tiles }));
-        again.must_be("read, typed", &given, &after);
+        let mut lent = Lent::new(slots);
+        let record = Record { kind: 0, order, pixels: area(order) as u32, tiles };
+        let wrapped = Bed::read(bytes, lent.as_mut()).map(|bed| record_of(&bed));
+        same("read of a bed", &given, flat(wrapped), some(number, record));
+        lent.must_be("read of a bed", &given, &after);
         *slots = after;
         self.add(number);
         (number, order, tiles)
+    }
+}
+
+/// A bed's answer to a feed as the number and the count taken.
+pub fn stopped(answer: Result<(), kingletbed::Stopped>, accounts: &[u8]) -> (u32, usize) {
+    match answer {
+        Ok(()) => (0, accounts.len()),
+        Err(stopped) => (stopped.refusal.number(), stopped.taken),
     }
 }

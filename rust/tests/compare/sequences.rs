@@ -1,16 +1,16 @@
-//! Random lists of calls on the same few slots, beside the plain bed. The bed sees what the calls are handed besides record and
-//! slots, nothing of these.
+//! Random lists of calls on the same few slots and through one bed that lives, beside the plain bed. The plain bed sees
+//! what the calls are handed besides record and slots, nothing of these.
 
 use crate::damage;
-use crate::pair::Count;
+use crate::living::Living;
+use crate::pair::{At, Count};
 use crate::plain::bed::Bed;
 use crate::plain::{area, file, left, Record, Tile};
 use crate::random::{palette, Built, Random};
 
-/// The record and the slots in use, and the plain bed once a call was accepted.
+/// The bed that lives, with its record and slots, and the plain bed once a call was accepted.
 struct State {
-    record: Record,
-    slots: Vec<u32>,
+    living: Living,
     bed: Option<Bed>,
     /// Accounts in the order of the scan, for feeds to follow.
     wanted: Vec<u8>,
@@ -24,17 +24,14 @@ pub fn case(random: &mut Random, count: &mut Count) {
         _ => 300,
     };
     // What record and slots hold before the first accepted call is arbitrary.
-    let mut state = State {
-        record: Record {
-            kind: random.below(3) as u32,
-            order: random.below(12) as u32,
-            pixels: random.below(70) as u32,
-            tiles: random.below(slots + 2),
-        },
-        slots: (0..slots).map(|_| if random.once_in(2) { random.next() as u32 } else { 0 }).collect(),
-        bed: None,
-        wanted: Vec::new(),
+    let record = Record {
+        kind: random.below(3) as u32,
+        order: random.below(12) as u32,
+        pixels: random.below(70) as u32,
+        tiles: random.below(slots + 2),
     };
+    let slots = (0..slots).map(|_| if random.once_in(2) { random.next() as u32 } else { 0 }).collect();
+    let mut state = State { living: Living::unmade(record, slots), bed: None, wanted: Vec::new() };
     let begin = random.below(4);
     for step in 0..random.between(5, 40) {
         let call = if step == begin { random.below(2) } else { random.below(20) };
@@ -43,7 +40,7 @@ pub fn case(random: &mut Random, count: &mut Count) {
             1 => read(random, count, &mut state),
             2..=9 => feed(random, count, &mut state),
             10..=14 => claim(random, count, &mut state),
-            _ => ask(random, count, &state),
+            _ => ask(random, count, state.living.at()),
         }
         compare_left(count, &state);
     }
@@ -56,7 +53,7 @@ fn small_order(random: &mut Random) -> u32 {
 fn fresh(random: &mut Random, count: &mut Count, state: &mut State) {
     let order = if random.once_in(12) { random.pick(&[11, 12, 255, 256, 258, u32::MAX]) } else { small_order(random) };
     let kind = if random.once_in(12) { random.pick(&[2, 256, u32::MAX]) } else { random.below(2) as u32 };
-    let (number, record) = count.fresh(kind, order, &mut state.slots);
+    let number = state.living.fresh(count, kind, order);
     match Bed::fresh(kind.min(1), order) {
         Ok(bed) => {
             assert_eq!(number, 0, "fresh: the plain bed accepts");
@@ -64,7 +61,6 @@ fn fresh(random: &mut Random, count: &mut Count, state: &mut State) {
             let accounts = palette(random);
             let built = Built::random(random, order, &accounts, splits);
             state.wanted = (0..area(order)).map(|place| built.raster[bed.index_of_place(place)]).collect();
-            state.record = record;
             state.bed = Some(bed);
         }
         Err(refused) => assert_eq!(number, refused, "fresh: the plain bed refuses"),
@@ -72,43 +68,40 @@ fn fresh(random: &mut Random, count: &mut Count, state: &mut State) {
 }
 
 fn feed(random: &mut Random, count: &mut Count, state: &mut State) {
-    let from = state.record.pixels as usize;
+    let from = state.living.record.pixels as usize;
     let length = match random.below(8) {
         0 => 0,
         1..=4 => random.between(1, 12),
         5 | 6 => random.between(1, 90),
         _ => state.wanted.len() + 1,
     };
-    let mut accounts: Vec<u8> = (from..from + length).map(|place| state.wanted.get(place).copied().unwrap_or(7)).collect();
+    let mut accounts: Vec<u8> =
+        (from..from + length).map(|place| state.wanted.get(place).copied().unwrap_or(7)).collect();
     for _ in 0..random.below(3) {
         if length > 0 {
             let at = random.below(length);
             accounts[at] = if random.once_in(3) { random.pick(&[64, 65, 128, 255]) } else { random.below(64) as u8 };
         }
     }
-    let (number, taken, record) = count.feed(state.record, &mut state.slots, &accounts);
-    // A feed hands on the record that it answers, refused or not.
-    state.record = record;
+    let answer = state.living.feed(count, &accounts);
     if let Some(bed) = &mut state.bed {
-        assert_eq!((number, taken), bed.feed(state.slots.len(), &accounts), "feed: the plain bed answers otherwise");
+        assert_eq!(answer, bed.feed(state.living.slots.len(), &accounts), "feed: the plain bed answers otherwise");
     }
 }
 
 fn claim(random: &mut Random, count: &mut Count, state: &mut State) {
-    let order = state.record.order;
-    let (corner, size) = block(random, order);
+    let slots = &state.living.slots;
+    let (corner, size) = block(random, state.living.record.order);
     let account = match random.below(8) {
         0 => random.pick(&[64, 100, 255]),
         1 | 2 => 0,
         3 => random.below(64) as u8,
-        _ => state.slots.first().map_or(5, |word| (word % 64) as u8),
+        _ => slots.first().map_or(5, |word| (word % 64) as u8),
     };
-    let (number, tiles) = count.claim((order, state.record.tiles), &mut state.slots, corner, size, account);
-    if number == 0 {
-        state.record.tiles = tiles;
-    }
+    let m = slots.len();
+    let number = state.living.claim(count, corner, size, account);
     if let Some(bed) = &mut state.bed {
-        assert_eq!(number, bed.claim(state.slots.len(), corner, size, account), "claim: the plain bed answers otherwise");
+        assert_eq!(number, bed.claim(m, corner, size, account), "claim: the plain bed answers otherwise");
     }
 }
 
@@ -121,11 +114,10 @@ fn read(random: &mut Random, count: &mut Count, state: &mut State) {
     if random.once_in(3) {
         damage::file(random, &mut bytes, built.words.len());
     }
-    let (number, order, tiles) = count.read(&bytes, &mut state.slots);
-    match Bed::read(state.slots.len(), &bytes) {
+    let number = state.living.read(count, &bytes);
+    match Bed::read(state.living.slots.len(), &bytes) {
         Ok(bed) => {
             assert_eq!(number, 0, "read: the plain bed accepts");
-            state.record = Record { kind: 0, order, pixels: area(order) as u32, tiles };
             state.bed = Some(bed);
         }
         Err(refused) => assert_eq!(number, refused, "read: the plain bed refuses"),
@@ -143,11 +135,11 @@ pub fn block(random: &mut Random, order: u32) -> (u32, u32) {
 }
 
 /// The calls that change nothing.
-pub fn ask(random: &mut Random, count: &mut Count, asked: &impl AsMap) {
-    let at @ (order, _, slots) = asked.map();
+pub fn ask(random: &mut Random, count: &mut Count, at: At) {
+    let (order, slots) = (at.order, at.slots);
     let side = 1usize << order.min(10);
     let (column, row) = (random.below(side + 1) as u32, random.below(side + 1) as u32);
-    match random.below(6) {
+    match random.below(7) {
         0 => {
             count.check(at);
         }
@@ -163,6 +155,10 @@ pub fn ask(random: &mut Random, count: &mut Count, asked: &impl AsMap) {
             count.part(at, corner, size);
         }
         4 => {
+            let (corner, size) = block(random, order);
+            count.shown(at, corner, size);
+        }
+        5 => {
             let asking = if random.once_in(8) { random.next() as u8 } else { random.between(1, 63) as u8 };
             count.rights(at, column, row, asking);
         }
@@ -173,26 +169,16 @@ pub fn ask(random: &mut Random, count: &mut Count, asked: &impl AsMap) {
     }
 }
 
-/// What has a map to ask.
-pub trait AsMap {
-    fn map(&self) -> (u32, usize, &[u32]);
-}
-
-impl AsMap for State {
-    fn map(&self) -> (u32, usize, &[u32]) {
-        (self.record.order, self.record.tiles, &self.slots)
-    }
-}
-
-/// The list left is the bed's blocks, and decodes to its accounts.
+/// The list left is the plain bed's blocks, and decodes to its accounts.
 fn compare_left(count: &mut Count, state: &State) {
     let Some(bed) = &state.bed else { return };
+    let Living { record, slots, .. } = &state.living;
     let blocks = bed.blocks();
-    assert_eq!(state.record.tiles, blocks.len(), "the tile count left");
-    assert_eq!(state.slots, left(state.slots.len(), &blocks), "the slots left");
-    assert_eq!((state.record.order, state.record.kind), (bed.order, bed.kind), "the record left");
-    assert_eq!(u64::from(state.record.pixels), bed.scanned, "the pixels scanned");
-    let (number, raster) = count.decode(state.map(), &vec![0x5a; bed.accounts.len()]);
+    assert_eq!(record.tiles, blocks.len(), "the tile count left");
+    assert_eq!(*slots, left(slots.len(), &blocks), "the slots left");
+    assert_eq!((record.order, record.kind), (bed.order, bed.kind), "the record left");
+    assert_eq!(u64::from(record.pixels), bed.scanned, "the pixels scanned");
+    let (number, raster) = count.decode(state.living.at(), &vec![0x5a; bed.accounts.len()]);
     assert_eq!(number, 0, "decoding what was left");
     assert_eq!(raster, bed.accounts, "what was left, decoded");
 }

@@ -1,7 +1,9 @@
-//! The worked lines of the scope paper, those that are proved as well. The numbers are the paper's, not the plain implementation's.
+//! The worked lines of the scope paper, those that are proved as well. The numbers are the paper's, not the plain
+//! implementation's.
 
+use crate::living::Living;
 use crate::pair::Count;
-use crate::plain::Record;
+use crate::plain::{Record, Tile};
 
 /// Bed M, order 2, row after row, and its list.
 const M: [u8; 16] = [5, 5, 0, 0, 5, 5, 0, 9, 9, 0, 9, 9, 0, 0, 9, 9];
@@ -13,11 +15,10 @@ fn word(corner: u32, size: u32, account: u32) -> u32 {
 
 /// Scans accounts with m slots: the number, the count taken, the record and the slots.
 fn scanned(count: &mut Count, kind: u32, order: u32, m: usize, accounts: &[u8]) -> (u32, usize, Record, Vec<u32>) {
-    let mut slots = vec![u32::MAX; m];
-    let (number, record) = count.fresh(kind, order, &mut slots);
-    assert_eq!(number, 0);
-    let (number, taken, record) = count.feed(record, &mut slots, accounts);
-    (number, taken, record, slots)
+    let mut living = Living::unmade(Record { kind, order, pixels: 0, tiles: 0 }, vec![u32::MAX; m]);
+    assert_eq!(living.fresh(count, kind, order), 0);
+    let (number, taken) = living.feed(count, accounts);
+    (number, taken, living.record, living.slots)
 }
 
 pub fn lines(count: &mut Count) {
@@ -50,13 +51,15 @@ fn bed_m(count: &mut Count) {
 
     assert_eq!(count.part(at, 4, 1), (0, 1, 1));
     assert_eq!(count.part(at, 12, 0), (0, 3, 0));
+    assert_eq!(count.shown(at, 12, 0), (0, vec![Tile { corner: 12, size: 0, account: 9 }]));
     assert_eq!(count.lookup(at, 3, 1), (0, 9));
     assert_eq!(count.lookup(at, 4, 1).0, 31);
 
     let mut slots = M_WORDS.to_vec();
     slots.resize(6, 0);
-    assert_eq!(count.claim((2, 4), &mut slots, 3, 0, 0), (0, 6));
-    assert_eq!(slots, [word(0, 0, 5), word(1, 0, 5), word(2, 0, 5), 7177, 8201, 12361]);
+    let mut living = Living::of_list(2, 4, &slots);
+    assert_eq!((living.claim(count, 3, 0, 0), living.record.tiles), (0, 6));
+    assert_eq!(living.slots, [word(0, 0, 5), word(1, 0, 5), word(2, 0, 5), 7177, 8201, 12361]);
 }
 
 fn small_beds(count: &mut Count) {

@@ -40,8 +40,13 @@ impl Bed {
 
     /// The largest uniform blocks of non-zero accounts, by rising corner.
     pub fn blocks(&self) -> Vec<Tile> {
+        self.blocks_of(0, self.order)
+    }
+
+    /// The same of one block alone.
+    pub fn blocks_of(&self, corner: u64, size: u32) -> Vec<Tile> {
         let mut found = Vec::new();
-        self.blocks_in(0, self.order, &mut found);
+        self.blocks_in(corner, size, &mut found);
         found
     }
 
@@ -76,7 +81,8 @@ impl Bed {
         if unscanned.into_iter().any(|place| self.accounts[self.index_of_place(place)] != 0) {
             return (22, 0);
         }
-        // No bed has more blocks than pixels. The others are counted anew at each pixel; on large beds the count is kept instead.
+        // No bed has more blocks than pixels. The others are counted anew at each pixel; on large beds the count is
+        // kept instead.
         let roomy = m as u64 >= area(self.order);
         let mut tally = if !roomy && self.order > 6 { Some(Tally::of(self)) } else { None };
         for (taken, &account) in accounts.iter().enumerate() {

@@ -11,7 +11,10 @@ fn roster(order: u32, tiles: &[Tile]) -> Vec<(u8, u32)> {
     for account in accounts {
         totals[usize::from(account)] += 1;
     }
-    (1..64).filter(|&account| totals[usize::from(account)] > 0).map(|account| (account, totals[usize::from(account)])).collect()
+    (1..64)
+        .filter(|&account| totals[usize::from(account)] > 0)
+        .map(|account| (account, totals[usize::from(account)]))
+        .collect()
 }
 
 /// The file of a list. The paper leaves the roster's order open; the library's writer promises rising accounts.

@@ -1,4 +1,5 @@
-//! The calls that are handed an order or a record, a count and slots. Each gives its answer; those that write give the storage too.
+//! The calls that are handed an order or a record, a count and slots. Each gives its answer; those that write give the
+//! storage too.
 
 use super::bed::{block_in, painted, Bed};
 use super::{area, file, left, pixel, Record, Tile};
@@ -98,7 +99,12 @@ fn opened(record: Record, slots: &[u32]) -> Result<Bed, u32> {
             }
         }
     }
-    Ok(Bed { order: record.order, kind: record.kind, scanned: u64::from(record.pixels), accounts: painted(record.order, &tiles) })
+    Ok(Bed {
+        order: record.order,
+        kind: record.kind,
+        scanned: u64::from(record.pixels),
+        accounts: painted(record.order, &tiles),
+    })
 }
 
 pub fn decode(order: u32, tiles: usize, slots: &[u32], raster: &[u8]) -> (u32, Vec<u8>) {
@@ -134,8 +140,22 @@ pub fn part(order: u32, tiles: usize, slots: &[u32], corner: u32, size: u32) -> 
     let inside = |tile: &Tile| tile.corner >= corner && tile.end() <= corner + area(size);
     let position = tiles.iter().filter(|tile| tile.corner < corner).count();
     let length = tiles.iter().filter(|tile| inside(tile)).count();
-    assert!(tiles[position..position + length].iter().all(inside), "the tiles inside are one run");
+    assert!(tiles[position..position + length].iter().all(inside), "the tiles inside stand together");
     (0, position, length)
+}
+
+/// The number, the tiles that a bed of the block alone would have, and the accounts of the block by rising Morton
+/// number.
+pub fn shown(order: u32, tiles: usize, slots: &[u32], corner: u32, size: u32) -> (u32, Vec<Tile>, Vec<u8>) {
+    let (number, ..) = part(order, tiles, slots, corner, size);
+    if number != 0 {
+        return (number, Vec::new(), Vec::new());
+    }
+    let tiles: Vec<Tile> = slots[..tiles].iter().map(|&word| Tile::of_word(word)).collect();
+    let bed = Bed { order, kind: 0, scanned: area(order), accounts: painted(order, &tiles) };
+    let corner = u64::from(corner);
+    let accounts = (corner..corner + area(size)).map(|morton| bed.accounts[bed.index_of_morton(morton)]).collect();
+    (0, bed.blocks_of(corner, size), accounts)
 }
 
 /// Who a pixel or an asker is.

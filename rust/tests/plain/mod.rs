@@ -1,9 +1,10 @@
-//! Another implementation of every call, from the scope paper's plain bed: an account for each pixel, and lists made from it anew.
-//! No cleverness, and nothing shared with the library or its wrapper.
+//! Another implementation of every call, from the scope paper's plain bed: an account for each pixel, and lists made
+//! from it anew. No cleverness, and nothing shared with the library or its wrapper.
 
 pub mod bed;
 pub mod file;
 pub mod list;
+pub mod points;
 pub mod tally;
 
 /// 4^n, wide enough for every size that a word can hold.
@@ -48,8 +49,9 @@ impl Tile {
         (self.corner * 1024 + u64::from(self.size) * 64 + u64::from(self.account)) as u32
     }
 
+    /// Everything above bit 9 is the corner.
     pub fn of_word(word: u32) -> Tile {
-        Tile { corner: u64::from(word / 1024 % (1 << 20)), size: word / 64 % 16, account: (word % 64) as u8 }
+        Tile { corner: u64::from(word / 1024), size: word / 64 % 16, account: (word % 64) as u8 }
     }
 
     pub fn end(self) -> u64 {

@@ -1,5 +1,5 @@
-//! The number of blocks of a large bed, kept while single pixels change: for every quadrant its account, if it has just one, and how
-//! many blocks it would show by itself.
+//! The number of blocks of a large bed, kept while single pixels change: for every quadrant its account, if it has just
+//! one, and how many blocks it would show by itself.
 
 use super::bed::Bed;
 use super::{area, morton};

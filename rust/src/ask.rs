@@ -1,0 +1,252 @@
+//! What may be asked of a bed.
+
+use crate::bed::pixels_of;
+use crate::{raw, Account, Bed, Block, Kind, Pixel, Refusal, Shown, Tile, Tiles};
+
+// No call here can panic, whatever the slots give: the part of them that an answer names is taken by `get`.
+impl<S: AsRef<[u32]>> Bed<S> {
+    /// How the bed is scanned.
+    ///
+    /// ```
+    /// use kingletbed::{Bed, Kind};
+    /// assert_eq!(Bed::from_slots(2, 0, [])?.kind(), Kind::Rows);
+    /// # Ok::<(), kingletbed::Refusal>(())
+    /// ```
+    #[must_use]
+    pub fn kind(&self) -> Kind {
+        self.kind
+    }
+
+    /// The order: the bed has 2^order columns and rows.
+    ///
+    /// ```
+    /// assert_eq!(kingletbed::Bed::from_slots(2, 0, [])?.order(), 2);
+    /// # Ok::<(), kingletbed::Refusal>(())
+    /// ```
+    #[must_use]
+    pub fn order(&self) -> u32 {
+        self.order
+    }
+
+    /// The number of columns, and of rows.
+    ///
+    /// ```
+    /// assert_eq!(kingletbed::Bed::from_slots(2, 0, [])?.side(), 4);
+    /// # Ok::<(), kingletbed::Refusal>(())
+    /// ```
+    #[must_use]
+    pub fn side(&self) -> u32 {
+        raw::extent(self.order).side
+    }
+
+    /// The number of pixels.
+    ///
+    /// ```
+    /// assert_eq!(kingletbed::Bed::from_slots(2, 0, [])?.pixels(), 16);
+    /// # Ok::<(), kingletbed::Refusal>(())
+    /// ```
+    #[must_use]
+    pub fn pixels(&self) -> u32 {
+        pixels_of(self.order)
+    }
+
+    /// How many pixels are scanned. One that is not counts as nobody's.
+    ///
+    /// ```
+    /// use kingletbed::{Bed, Kind};
+    /// let mut bed = Bed::fresh(Kind::Rows, 1, [0; 4])?;
+    /// bed.feed(&[7, 7])?;
+    /// assert_eq!(bed.scanned(), 2);
+    /// # Ok::<(), kingletbed::Refusal>(())
+    /// ```
+    #[must_use]
+    pub fn scanned(&self) -> u32 {
+        self.pixels
+    }
+
+    /// Whether every pixel is scanned.
+    ///
+    /// ```
+    /// use kingletbed::{Bed, Kind};
+    /// let mut bed = Bed::fresh(Kind::Rows, 1, [0; 4])?;
+    /// bed.feed(&[7, 7])?;
+    /// assert!(!bed.is_scanned());
+    /// bed.feed(&[0, 0])?;
+    /// assert!(bed.is_scanned());
+    /// # Ok::<(), kingletbed::Refusal>(())
+    /// ```
+    #[must_use]
+    pub fn is_scanned(&self) -> bool {
+        self.pixels == self.pixels()
+    }
+
+    /// All the slots: the list, and what stands behind it.
+    ///
+    /// ```
+    /// use kingletbed::{Bed, Kind};
+    /// let mut bed = Bed::fresh(Kind::Rows, 1, [0; 4])?;
+    /// bed.feed(&[7, 7, 7, 7])?;
+    /// assert_eq!(bed.slots(), [71, 0, 0, 0]);
+    /// # Ok::<(), kingletbed::Refusal>(())
+    /// ```
+    #[must_use]
+    pub fn slots(&self) -> &[u32] {
+        self.slots.as_ref()
+    }
+
+    /// The list itself: a word for each tile, by rising corner.
+    ///
+    /// ```
+    /// use kingletbed::{Bed, Kind};
+    /// let mut bed = Bed::fresh(Kind::Rows, 1, [0; 4])?;
+    /// bed.feed(&[7, 7, 7, 7])?;
+    /// assert_eq!(bed.words(), [71]);
+    /// # Ok::<(), kingletbed::Refusal>(())
+    /// ```
+    #[must_use]
+    pub fn words(&self) -> &[u32] {
+        self.slots().get(..self.tiles).unwrap_or_default()
+    }
+
+    /// The tiles, by rising corner: every pixel that is somebody's is in one of them.
+    ///
+    /// ```
+    /// use kingletbed::{Account, Bed};
+    /// let bed = Bed::from_slots(2, 4, [69, 7177, 8201, 12361])?;
+    /// let nines = bed.tiles().filter(|tile| tile.account() == Account(9));
+    /// assert_eq!(nines.map(|tile| tile.corner()).collect::<Vec<_>>(), [7, 8, 12]);
+    /// # Ok::<(), kingletbed::Refusal>(())
+    /// ```
+    pub fn tiles(&self) -> Tiles<'_> {
+        Tiles::of_words(self.words())
+    }
+
+    /// The account at a pixel.
+    ///
+    /// ```
+    /// use kingletbed::{Account, Bed, Pixel, Refusal};
+    /// let bed = Bed::from_slots(2, 4, [69, 7177, 8201, 12361])?;
+    /// assert_eq!(bed.lookup(Pixel { column: 0, row: 2 }), Ok(Account(9)));
+    /// assert_eq!(bed.lookup(Pixel { column: 1, row: 2 }), Ok(Account::NOBODY));
+    /// assert_eq!(bed.lookup(Pixel { column: 4, row: 0 }), Err(Refusal::PointOutside));
+    /// # Ok::<(), kingletbed::Refusal>(())
+    /// ```
+    pub fn lookup(&self, at: Pixel) -> Result<Account, Refusal> {
+        let answer = raw::lookup(self.order, self.tiles, self.slots(), at.column, at.row);
+        Refusal::outcome(answer.number)?;
+        Ok(Account(answer.account))
+    }
+
+    /// Whether an account may place at a pixel: on its own always, on nobody's unless it is a guest, on another's only
+    /// as staff and not on another staff member's.
+    ///
+    /// ```
+    /// use kingletbed::{Account, Bed, Pixel};
+    /// let bed = Bed::from_slots(2, 4, [69, 7177, 8201, 12361])?;
+    /// let pixel = Pixel { column: 3, row: 1 }; // account 9's
+    /// assert!(bed.rights(pixel, Account(9))?);
+    /// assert!(bed.rights(pixel, Account(5))?);
+    /// assert!(!bed.rights(pixel, Account(48))?);
+    /// # Ok::<(), kingletbed::Refusal>(())
+    /// ```
+    pub fn rights(&self, at: Pixel, asking: Account) -> Result<bool, Refusal> {
+        let answer = raw::rights(self.order, self.tiles, self.slots(), at.column, at.row, asking.0);
+        Refusal::outcome(answer.number)?;
+        Ok(answer.yes != 0)
+    }
+
+    /// The part of the list whose tiles lie wholly inside a block: of the slots themselves, not a copy.
+    ///
+    /// To draw a block take [`shown`](Bed::shown): the part of a block that lies under a larger tile is empty, though
+    /// every pixel of it is somebody's.
+    ///
+    /// ```
+    /// use kingletbed::{Account, Bed, Block, Pixel};
+    /// let bed = Bed::from_slots(2, 4, [69, 7177, 8201, 12361])?;
+    /// assert_eq!(bed.part(Block { corner: 4, size: 1 })?, [7177]);
+    /// assert_eq!(bed.part(Block { corner: 12, size: 0 })?, []);
+    /// assert_eq!(bed.lookup(Pixel { column: 2, row: 2 })?, Account(9)); // corner 12
+    /// # Ok::<(), kingletbed::Refusal>(())
+    /// ```
+    pub fn part(&self, block: Block) -> Result<&[u32], Refusal> {
+        let slots = self.slots();
+        let answer = raw::part(self.order, self.tiles, slots, block.corner, block.size);
+        Refusal::outcome(answer.number)?;
+        Ok(slots.get(answer.position..).and_then(|rest| rest.get(..answer.length)).unwrap_or_default())
+    }
+
+    /// What a block shows, by rising corner: the tiles inside it, or where a larger tile covers it that tile, cut to
+    /// the block. Every pixel of the block that is somebody's is in one of them, and they are what a bed of the block
+    /// alone would have for tiles.
+    ///
+    /// ```
+    /// use kingletbed::{Account, Bed, Block};
+    /// let bed = Bed::from_slots(2, 4, [69, 7177, 8201, 12361])?;
+    /// // Of the block NE its one tile, of a pixel under the tile SE that pixel, of a free pixel nothing.
+    /// for (corner, size, tiles) in [(4, 1, &[(7, 0)][..]), (13, 0, &[(13, 0)]), (9, 0, &[])] {
+    ///     let shown = bed.shown(Block { corner, size })?.inspect(|tile| assert_eq!(tile.account(), Account(9)));
+    ///     assert_eq!(shown.map(|tile| (tile.corner(), tile.size())).collect::<Vec<_>>(), tiles);
+    /// }
+    /// # Ok::<(), kingletbed::Refusal>(())
+    /// ```
+    pub fn shown(&self, block: Block) -> Result<Shown<'_>, Refusal> {
+        let inside = self.part(block)?;
+        let over = if inside.is_empty() { self.over(block)? } else { None };
+        Ok(Shown::new(Tiles::of_words(inside), over))
+    }
+
+    /// The tile over a block that has none inside, cut to it. Blocks lie apart or one in the other, so that a tile over
+    /// the corner is over all of the block.
+    fn over(&self, block: Block) -> Result<Option<Tile>, Refusal> {
+        match self.lookup(Pixel::of_morton(self.order, block.corner)?)? {
+            Account::NOBODY => Ok(None),
+            account => Tile::over(self.order, block, account).map(Some),
+        }
+    }
+
+    /// Writes the account of each pixel, row after row. The raster has [`pixels`](Bed::pixels) bytes.
+    ///
+    /// ```
+    /// use kingletbed::Bed;
+    /// let bed = Bed::from_slots(2, 4, [69, 7177, 8201, 12361])?;
+    /// let mut raster = [0; 16];
+    /// bed.decode(&mut raster)?;
+    /// assert_eq!(raster, [5, 5, 0, 0, 5, 5, 0, 9, 9, 0, 9, 9, 0, 0, 9, 9]);
+    /// # Ok::<(), kingletbed::Refusal>(())
+    /// ```
+    pub fn decode(&self, raster: &mut [u8]) -> Result<(), Refusal> {
+        Refusal::outcome(raw::decode(self.order, self.tiles, self.slots(), raster))
+    }
+
+    /// The most bytes that the bed's file can take: 6, 4 for each tile, 5 for each account.
+    ///
+    /// ```
+    /// assert_eq!(kingletbed::Bed::from_slots(2, 4, [69, 7177, 8201, 12361])?.file_room(), 6 + 4 * 4 + 5 * 4);
+    /// # Ok::<(), kingletbed::Refusal>(())
+    /// ```
+    #[must_use]
+    pub fn file_room(&self) -> usize {
+        // No list has more than 4^10 tiles, so that nothing wraps.
+        6 + 4 * self.tiles + 5 * self.tiles.min(Account::HIGHEST.0.into())
+    }
+
+    /// Writes the bed as a file and gives its length; [`file_room`](Bed::file_room) bytes are enough. Bytes behind the
+    /// file are not touched.
+    ///
+    /// ```
+    /// use kingletbed::{Bed, Refusal};
+    /// let bed = Bed::from_slots(2, 4, [69, 7177, 8201, 12361])?;
+    /// let mut file = vec![0; bed.file_room()];
+    /// let length = bed.write(&mut file)?;
+    /// assert_eq!(length, 32);
+    /// assert_eq!(Bed::read(&file[..length], [0; 16])?, bed);
+    /// assert_eq!(bed.write(&mut file[..31]), Err(Refusal::BytesTooFew));
+    /// # Ok::<(), kingletbed::Refusal>(())
+    /// ```
+    #[must_use = "the file is as many bytes as the answer says"]
+    pub fn write(&self, file: &mut [u8]) -> Result<usize, Refusal> {
+        let answer = raw::write(self.order, self.tiles, self.slots(), file);
+        Refusal::outcome(answer.number)?;
+        Ok(answer.length)
+    }
+}

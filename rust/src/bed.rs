@@ -1,0 +1,253 @@
+//! The bed: what it holds, how it is made and how it is changed.
+
+use crate::{raw, Account, Block, Kind, Refusal, Stopped, Tile, Tiles};
+use core::fmt;
+
+/// A bed map together with the slots that it is kept in, by value or by borrow. It cannot go stale: while a bed lives
+/// nothing else writes its slots, and every change goes through it.
+///
+/// Slots are anything that gives words: `[u32; N]`, `Vec<u32>`, `Box<[u32]>`, `&mut [u32]`; a bed that is only asked
+/// may have them by `&[u32]`. A bed of t tiles needs t slots, a scan as many as it has on the way, and 4^order always
+/// suffice. Slots of a make of your own must give the same words until the bed writes them. If they do not, a call
+/// answers for the words that it was given, or refuses them; none panics.
+///
+/// Where the making of a bed is refused, slots handed over by value are gone; lent by `&mut` they are as they were.
+///
+/// A bed is made by [`fresh`](Bed::fresh) and filled by [`feed`](Bed::feed), [`read`](Bed::read) from a file, or made
+/// [`from_slots`](Bed::from_slots) that have its list already. The examples use this bed of order 2, with these tiles:
+///
+/// ```text
+/// 5 5 0 0        corner  0  size 1  account 5    word    69
+/// 5 5 0 9        corner  7  size 0  account 9    word  7177
+/// 9 0 9 9        corner  8  size 0  account 9    word  8201
+/// 0 0 9 9        corner 12  size 1  account 9    word 12361
+/// ```
+///
+/// A bed cannot be changed while its words are borrowed. This compiles without its last line:
+///
+/// ```compile_fail,E0502
+/// # use kingletbed::{Account, Bed, Block};
+/// let mut bed = Bed::from_slots(2, 4, vec![69, 7177, 8201, 12361]).unwrap();
+/// let words = bed.words();
+/// bed.claim(Block::whole(2), Account(8)).unwrap();
+/// println!("{words:?}");
+/// ```
+///
+/// Nor can slots that it borrows be written behind its back:
+///
+/// ```compile_fail,E0506
+/// # use kingletbed::{Bed, Kind};
+/// let mut slots = [0; 16];
+/// let mut bed = Bed::fresh(Kind::Rows, 2, &mut slots).unwrap();
+/// slots[0] = 69;
+/// bed.feed(&[5]).unwrap();
+/// ```
+///
+/// Two beds are equal that have one order and the same tiles, so that show the same accounts; neither the slots behind
+/// the list count, nor how a bed was scanned.
+///
+/// ```
+/// use kingletbed::{Bed, Kind};
+/// let mut fives = Bed::fresh(Kind::Rows, 1, [0; 4])?;
+/// let mut nines = Bed::fresh(Kind::Rows, 1, [0; 4])?;
+/// assert_eq!(fives, nines);
+/// fives.feed(&[5, 5, 5, 5])?;
+/// nines.feed(&[9, 9, 9, 9])?;
+/// assert_ne!(fives, nines);
+/// assert_eq!(fives, Bed::from_slots(1, 1, &[69][..])?);
+/// # Ok::<(), kingletbed::Refusal>(())
+/// ```
+#[derive(Clone)]
+#[must_use = "the bed is what its slots mean"]
+pub struct Bed<S> {
+    pub(crate) kind: Kind,
+    pub(crate) order: u32,
+    /// The pixels scanned.
+    pub(crate) pixels: u32,
+    /// The tile count. That of a list which the library made or checked, so at most 4^order.
+    pub(crate) tiles: usize,
+    pub(crate) slots: S,
+}
+
+/// 4^order, of an order that a call accepted.
+pub(crate) fn pixels_of(order: u32) -> u32 {
+    raw::extent(order).pixels
+}
+
+impl<S: AsRef<[u32]> + AsMut<[u32]>> Bed<S> {
+    /// Begins a scan: no pixel, no tile, all slots 0. An order above 10 is refused.
+    ///
+    /// ```
+    /// use kingletbed::{Bed, Kind};
+    /// let bed = Bed::fresh(Kind::Morton, 1, [7; 4])?;
+    /// assert_eq!((bed.kind(), bed.order(), bed.scanned()), (Kind::Morton, 1, 0));
+    /// assert_eq!(bed.into_slots(), [0; 4]);
+    /// # Ok::<(), kingletbed::Refusal>(())
+    /// ```
+    pub fn fresh(kind: Kind, order: u32, mut slots: S) -> Result<Bed<S>, Refusal> {
+        let answer = raw::fresh(kind.number(), order, slots.as_mut());
+        Refusal::outcome(answer.number)?;
+        Ok(Bed { kind, order: answer.order, pixels: answer.pixels, tiles: answer.tiles, slots })
+    }
+
+    /// Reads a file's list to the slots, and sets those behind it to 0. The bed is by rows, with every pixel scanned.
+    ///
+    /// ```
+    /// use kingletbed::{Bed, Refusal};
+    /// // order 0, one tile of account 3 on its pixel, a roster of one entry
+    /// let file = [0, 0, 0, 0, 1, 0, 0, 0, 3, 1, 3, 0, 0, 0, 1];
+    /// let mut slots = [7; 2];
+    /// assert_eq!(Bed::read(&file[..14], &mut slots), Err(Refusal::FileCutShort));
+    /// assert_eq!(slots, [7, 7]);
+    /// let bed = Bed::read(&file, &mut slots)?;
+    /// assert!(bed.is_scanned());
+    /// assert_eq!(bed.slots(), [3, 0]);
+    /// # Ok::<(), kingletbed::Refusal>(())
+    /// ```
+    pub fn read(file: &[u8], mut slots: S) -> Result<Bed<S>, Refusal> {
+        let answer = raw::read(file, slots.as_mut());
+        Refusal::outcome(answer.number)?;
+        Ok(Bed { kind: Kind::Rows, order: answer.order, pixels: pixels_of(answer.order), tiles: answer.tiles, slots })
+    }
+
+    /// Hands over the accounts of the next pixels, any number of them. The slots then hold the list of all pixels so
+    /// far, and 0 behind it. A refused pixel stops the feed: those ahead of it stand, and the bed goes on behind them.
+    ///
+    /// ```
+    /// use kingletbed::{Bed, Kind, Refusal, Stopped};
+    /// let mut bed = Bed::fresh(Kind::Rows, 1, [0; 2])?;
+    /// assert_eq!(bed.feed(&[7, 7, 7, 7]), Err(Stopped { refusal: Refusal::SlotsExceeded, taken: 2 }));
+    /// assert_eq!((bed.scanned(), bed.tiles().len()), (2, 2));
+    /// bed.feed(&[0, 0])?;
+    /// assert!(bed.is_scanned());
+    /// # Ok::<(), kingletbed::Refusal>(())
+    /// ```
+    pub fn feed(&mut self, accounts: &[u8]) -> Result<(), Stopped> {
+        let answer = raw::feed(self.kind.number(), self.order, self.pixels, self.tiles, self.slots.as_mut(), accounts);
+        // The record to go on with, whatever stopped the feed: that of the pixels taken.
+        self.pixels = answer.pixels;
+        self.tiles = answer.tiles;
+        Refusal::outcome(answer.number).map_err(|refusal| Stopped { refusal, taken: answer.taken })
+    }
+
+    /// Gives every pixel of a block to an account; [`Account::NOBODY`] releases them. The slots then hold the new list,
+    /// and 0 behind it. While a claim has a tile on a pixel that is not scanned yet, feeds are refused.
+    ///
+    /// ```
+    /// use kingletbed::{Account, Bed, Block, Pixel};
+    /// let mut bed = Bed::from_slots(2, 4, [69, 7177, 8201, 12361, 0, 0])?;
+    /// bed.claim(Block { corner: 4, size: 1 }, Account(9))?;
+    /// assert_eq!(bed.lookup(Pixel { column: 2, row: 0 })?, Account(9));
+    /// assert_eq!(bed.words(), [69, 4169, 8201, 12361]);
+    /// # Ok::<(), kingletbed::Refusal>(())
+    /// ```
+    pub fn claim(&mut self, block: Block, account: Account) -> Result<(), Refusal> {
+        let answer = raw::claim(self.order, self.tiles, self.slots.as_mut(), block.corner, block.size, account.0);
+        Refusal::outcome(answer.number)?;
+        self.tiles = answer.tiles;
+        Ok(())
+    }
+
+    /// Releases every pixel of a block: a claim for nobody.
+    ///
+    /// ```
+    /// use kingletbed::{Bed, Block, Refusal};
+    /// let mut bed = Bed::from_slots(2, 4, [69, 7177, 8201, 12361, 0, 0])?;
+    /// bed.release(Block { corner: 3, size: 0 })?;
+    /// assert_eq!(bed.tiles().len(), 6); // three quarters of the tile are left as tiles of their own
+    /// assert_eq!(bed.release(Block { corner: 15, size: 0 }), Err(Refusal::SlotsExceeded));
+    /// # Ok::<(), kingletbed::Refusal>(())
+    /// ```
+    pub fn release(&mut self, block: Block) -> Result<(), Refusal> {
+        self.claim(block, Account::NOBODY)
+    }
+}
+
+impl<S: AsRef<[u32]>> Bed<S> {
+    /// The bed whose list is the first `tiles` words of the slots, if they are a list. It is by rows, with every pixel
+    /// scanned. The count must be that of the list: fewer of its words are a list too, of a bed with less on it.
+    ///
+    /// ```
+    /// use kingletbed::{Bed, Refusal};
+    /// let slots = [69, 7177, 8201, 12361, 0, 0];
+    /// assert!(Bed::from_slots(2, 4, &slots).is_ok());
+    /// assert_eq!(Bed::from_slots(2, 5, &slots), Err(Refusal::AccountZero));
+    /// assert_eq!(Bed::from_slots(1, 4, &slots), Err(Refusal::CornerInvalid));
+    /// # Ok::<(), kingletbed::Refusal>(())
+    /// ```
+    pub fn from_slots(order: u32, tiles: usize, slots: S) -> Result<Bed<S>, Refusal> {
+        Refusal::outcome(raw::check(order, tiles, slots.as_ref()))?;
+        Ok(Bed { kind: Kind::Rows, order, pixels: pixels_of(order), tiles, slots })
+    }
+
+    /// The same bed with its slots by borrow, only to be asked: for code that takes beds whatever they are kept in.
+    ///
+    /// ```
+    /// use kingletbed::{Bed, Kind};
+    /// fn empty(bed: Bed<&[u32]>) -> bool {
+    ///     bed.words().is_empty()
+    /// }
+    /// let bed = Bed::fresh(Kind::Rows, 2, vec![0; 16])?;
+    /// assert!(empty(bed.view()));
+    /// # Ok::<(), kingletbed::Refusal>(())
+    /// ```
+    pub fn view(&self) -> Bed<&[u32]> {
+        Bed { kind: self.kind, order: self.order, pixels: self.pixels, tiles: self.tiles, slots: self.slots.as_ref() }
+    }
+}
+
+impl<S> Bed<S> {
+    /// The slots, given back. The bed's order and tile count are what [`from_slots`](Bed::from_slots) takes to make it
+    /// again.
+    ///
+    /// ```
+    /// use kingletbed::{Bed, Kind};
+    /// let mut bed = Bed::fresh(Kind::Rows, 1, vec![0; 3])?;
+    /// bed.feed(&[7, 7, 7, 7])?;
+    /// assert_eq!(bed.into_slots(), [71, 0, 0]);
+    /// # Ok::<(), kingletbed::Refusal>(())
+    /// ```
+    #[must_use]
+    pub fn into_slots(self) -> S {
+        self.slots
+    }
+}
+
+impl<S: AsRef<[u32]>, T: AsRef<[u32]>> PartialEq<Bed<T>> for Bed<S> {
+    fn eq(&self, other: &Bed<T>) -> bool {
+        self.order == other.order && self.words() == other.words()
+    }
+}
+
+impl<S: AsRef<[u32]>> Eq for Bed<S> {}
+
+/// The tiles, as [`Bed::tiles`] gives them.
+///
+/// ```
+/// let bed = kingletbed::Bed::from_slots(2, 4, [69, 7177, 8201, 12361])?;
+/// let mut sizes = 0;
+/// for tile in &bed {
+///     sizes += tile.size();
+/// }
+/// assert_eq!(sizes, 2);
+/// # Ok::<(), kingletbed::Refusal>(())
+/// ```
+impl<'a, S: AsRef<[u32]>> IntoIterator for &'a Bed<S> {
+    type Item = Tile;
+    type IntoIter = Tiles<'a>;
+
+    fn into_iter(self) -> Tiles<'a> {
+        self.tiles()
+    }
+}
+
+impl<S: AsRef<[u32]>> fmt::Debug for Bed<S> {
+    fn fmt(&self, f: &mut fmt::Formatter) -> fmt::Result {
+        f.debug_struct("Bed")
+            .field("kind", &self.kind)
+            .field("order", &self.order)
+            .field("scanned", &self.pixels)
+            .field("tiles", &self.tiles())
+            .finish()
+    }
+}

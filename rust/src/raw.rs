@@ -1,0 +1,291 @@
+//! The raw calls, as `include/kingletbed.h` has them: numbers and slices in, numbers out. The header says what each
+//! takes, refuses and leaves. They are for those who keep the numbers themselves; everyone else wants
+//! [`Bed`](crate::Bed).
+//!
+//! No call asks anything of its caller: the library answers every input, and the slices see to the memory. What nothing
+//! here protects from is a tile count that belongs to other slots, or to the same slots earlier. After a claim or a
+//! feed the count of before may still be that of a map, but of another bed, on which somebody's pixel reads as
+//! nobody's:
+//!
+//! ```
+//! use kingletbed::raw;
+//! let mut slots = [0; 4];
+//! let claimed = raw::claim(1, 0, &mut slots, 3, 0, 9);
+//! assert_eq!((claimed.number, claimed.tiles), (0, 1));
+//! assert_eq!(raw::lookup(1, claimed.tiles, &slots, 1, 1).account, 9);
+//! assert_eq!(raw::lookup(1, 0, &slots, 1, 1).account, 0); // the count of before: account 9's pixel reads as nobody's
+//! ```
+//!
+//! All unsafe code of this package is here.
+
+mod answers;
+
+pub use answers::{Around, Claimed, Extent, Fed, Found, Fresh, Morton, Part, Point, Reading, Right, Written};
+
+#[rustfmt::skip]
+extern "C" {
+    fn kb_check(order: u32, tiles: usize, slots: *const u32, slots_length: usize) -> u32;
+    fn kb_fresh(kind: u32, order: u32, slots: *mut u32, slots_length: usize) -> Fresh;
+    fn kb_feed(kind: u32, order: u32, pixels: u32, tiles: usize, slots: *mut u32, slots_length: usize,
+               accounts: *const u8, accounts_length: usize) -> Fed;
+    fn kb_decode(order: u32, tiles: usize, slots: *const u32, slots_length: usize,
+                 raster: *mut u8, raster_length: usize) -> u32;
+    fn kb_lookup(order: u32, tiles: usize, slots: *const u32, slots_length: usize, column: u32, row: u32) -> Found;
+    fn kb_part(order: u32, tiles: usize, slots: *const u32, slots_length: usize, corner: u32, size: u32) -> Part;
+    fn kb_rights(order: u32, tiles: usize, slots: *const u32, slots_length: usize,
+                 column: u32, row: u32, account: u8) -> Right;
+    fn kb_claim(order: u32, tiles: usize, slots: *mut u32, slots_length: usize,
+                corner: u32, size: u32, account: u8) -> Claimed;
+    fn kb_write(order: u32, tiles: usize, slots: *const u32, slots_length: usize,
+                file: *mut u8, file_length: usize) -> Written;
+    fn kb_read(file: *const u8, file_length: usize, slots: *mut u32, slots_length: usize) -> Reading;
+    fn kb_extent(order: u32) -> Extent;
+    fn kb_morton(order: u32, column: u32, row: u32) -> Morton;
+    fn kb_block(order: u32, column: u32, row: u32, size: u32) -> Around;
+    fn kb_point(order: u32, morton: u32) -> Point;
+    fn kb_tile_corner(word: u32) -> u32;
+    fn kb_tile_size(word: u32) -> u32;
+    fn kb_tile_account(word: u32) -> u8;
+}
+
+// Why the calls are safe: the library is proved to answer every number and whatever the lent storage holds, and asks
+// two things, that a pointer is good for the length behind it and that storage it writes overlaps nothing else.
+// Pointers and lengths here are those of slices, which see to both.
+
+/// `kb_check`. List checking: the refusal number of a map, 0 if it is one.
+///
+/// ```
+/// use kingletbed::raw;
+/// assert_eq!(raw::check(1, 1, &[71]), 0);
+/// assert_eq!(raw::check(0, 1, &[71]), 12); // the tile is larger than the bed
+/// ```
+#[must_use]
+pub fn check(order: u32, tiles: usize, slots: &[u32]) -> u32 {
+    unsafe { kb_check(order, tiles, slots.as_ptr(), slots.len()) }
+}
+
+/// `kb_fresh`. Begins a scan; kind 0 is by rows, any other in Morton order.
+///
+/// ```
+/// use kingletbed::raw;
+/// let mut slots = [7; 4];
+/// assert_eq!(raw::fresh(0, 11, &mut slots).number, 1);
+/// assert_eq!((raw::fresh(0, 1, &mut slots).number, slots), (0, [0; 4]));
+/// ```
+#[must_use]
+pub fn fresh(kind: u32, order: u32, slots: &mut [u32]) -> Fresh {
+    unsafe { kb_fresh(kind, order, slots.as_mut_ptr(), slots.len()) }
+}
+
+/// `kb_feed`. Hands over the accounts of the next pixels.
+///
+/// ```
+/// use kingletbed::raw;
+/// let mut slots = [0; 4];
+/// let fed = raw::feed(0, 1, 0, 0, &mut slots, &[7, 64]);
+/// assert_eq!((fed.number, fed.taken, fed.pixels, fed.tiles), (24, 1, 1, 1));
+/// ```
+#[must_use]
+pub fn feed(kind: u32, order: u32, pixels: u32, tiles: usize, slots: &mut [u32], accounts: &[u8]) -> Fed {
+    unsafe { kb_feed(kind, order, pixels, tiles, slots.as_mut_ptr(), slots.len(), accounts.as_ptr(), accounts.len()) }
+}
+
+/// `kb_decode`. Writes the account of each pixel.
+///
+/// ```
+/// use kingletbed::raw;
+/// let mut raster = [0; 4];
+/// assert_eq!((raw::decode(1, 1, &[7], &mut raster), raster), (0, [7, 0, 0, 0]));
+/// ```
+#[must_use]
+pub fn decode(order: u32, tiles: usize, slots: &[u32], raster: &mut [u8]) -> u32 {
+    unsafe { kb_decode(order, tiles, slots.as_ptr(), slots.len(), raster.as_mut_ptr(), raster.len()) }
+}
+
+/// `kb_lookup`. The account at a pixel.
+///
+/// ```
+/// use kingletbed::raw;
+/// assert_eq!(raw::lookup(1, 1, &[71], 1, 0).account, 7);
+/// ```
+#[must_use]
+pub fn lookup(order: u32, tiles: usize, slots: &[u32], column: u32, row: u32) -> Found {
+    unsafe { kb_lookup(order, tiles, slots.as_ptr(), slots.len(), column, row) }
+}
+
+/// `kb_part`. The position and length of the tiles inside a block.
+///
+/// ```
+/// use kingletbed::raw;
+/// let part = raw::part(2, 2, &[71, 4103], 4, 1);
+/// assert_eq!((part.position, part.length), (1, 1));
+/// ```
+#[must_use]
+pub fn part(order: u32, tiles: usize, slots: &[u32], corner: u32, size: u32) -> Part {
+    unsafe { kb_part(order, tiles, slots.as_ptr(), slots.len(), corner, size) }
+}
+
+/// `kb_rights`. Whether an account may place at a pixel: 1 or 0.
+///
+/// ```
+/// use kingletbed::raw;
+/// assert_eq!(raw::rights(1, 1, &[71], 1, 0, 8).yes, 0);
+/// ```
+#[must_use]
+pub fn rights(order: u32, tiles: usize, slots: &[u32], column: u32, row: u32, account: u8) -> Right {
+    unsafe { kb_rights(order, tiles, slots.as_ptr(), slots.len(), column, row, account) }
+}
+
+/// `kb_claim`. Gives a block to an account.
+///
+/// ```
+/// use kingletbed::raw;
+/// let mut slots = [71, 0, 0];
+/// let claimed = raw::claim(1, 1, &mut slots, 3, 0, 0);
+/// assert_eq!((claimed.number, claimed.tiles, slots), (0, 3, [7, 1031, 2055]));
+/// ```
+#[must_use]
+pub fn claim(order: u32, tiles: usize, slots: &mut [u32], corner: u32, size: u32, account: u8) -> Claimed {
+    unsafe { kb_claim(order, tiles, slots.as_mut_ptr(), slots.len(), corner, size, account) }
+}
+
+/// `kb_write`. Writes a map as a file.
+///
+/// ```
+/// use kingletbed::raw;
+/// let mut file = [0; 15];
+/// let written = raw::write(0, 1, &[3], &mut file);
+/// assert_eq!((written.length, file), (15, [0, 0, 0, 0, 1, 0, 0, 0, 3, 1, 3, 0, 0, 0, 1]));
+/// ```
+#[must_use]
+pub fn write(order: u32, tiles: usize, slots: &[u32], file: &mut [u8]) -> Written {
+    unsafe { kb_write(order, tiles, slots.as_ptr(), slots.len(), file.as_mut_ptr(), file.len()) }
+}
+
+/// `kb_read`. Reads a file to a map.
+///
+/// ```
+/// use kingletbed::raw;
+/// let mut slots = [7; 2];
+/// let reading = raw::read(&[0, 0, 0, 0, 1, 0, 0, 0, 3, 1, 3, 0, 0, 0, 1], &mut slots);
+/// assert_eq!((reading.order, reading.tiles, slots), (0, 1, [3, 0]));
+/// ```
+#[must_use]
+pub fn read(file: &[u8], slots: &mut [u32]) -> Reading {
+    unsafe { kb_read(file.as_ptr(), file.len(), slots.as_mut_ptr(), slots.len()) }
+}
+
+/// `kb_extent`. 2^order and 4^order: the columns and the pixels of a bed of an order, or of a block of a size.
+///
+/// ```
+/// use kingletbed::raw;
+/// let extent = raw::extent(3);
+/// assert_eq!((extent.side, extent.pixels), (8, 64));
+/// assert_eq!(raw::extent(11).number, 1);
+/// ```
+#[must_use]
+pub fn extent(order: u32) -> Extent {
+    unsafe { kb_extent(order) }
+}
+
+/// `kb_morton`. The Morton number of a point.
+///
+/// ```
+/// use kingletbed::raw;
+/// assert_eq!(raw::morton(2, 2, 1).morton, 6);
+/// assert_eq!(raw::morton(2, 4, 1).number, 31);
+/// ```
+#[must_use]
+pub fn morton(order: u32, column: u32, row: u32) -> Morton {
+    unsafe { kb_morton(order, column, row) }
+}
+
+/// `kb_block`. The block of a size that has a point in it.
+///
+/// ```
+/// use kingletbed::raw;
+/// let block = raw::block(2, 3, 1, 1);
+/// assert_eq!((block.corner, block.size), (4, 1));
+/// assert_eq!(raw::block(2, 3, 1, 3).number, 32);
+/// ```
+#[must_use]
+pub fn block(order: u32, column: u32, row: u32, size: u32) -> Around {
+    unsafe { kb_block(order, column, row, size) }
+}
+
+/// `kb_point`. The point of a Morton number.
+///
+/// ```
+/// use kingletbed::raw;
+/// let point = raw::point(2, 6);
+/// assert_eq!((point.column, point.row), (2, 1));
+/// assert_eq!(raw::point(2, 16).number, 32);
+/// ```
+#[must_use]
+pub fn point(order: u32, morton: u32) -> Point {
+    unsafe { kb_point(order, morton) }
+}
+
+/// `kb_tile_corner`. The corner that a word says, for every word.
+///
+/// ```
+/// use kingletbed::raw;
+/// assert_eq!(raw::tile_corner(12361), 12);
+/// ```
+#[must_use]
+pub fn tile_corner(word: u32) -> u32 {
+    unsafe { kb_tile_corner(word) }
+}
+
+/// `kb_tile_size`. The size that a word says, for every word.
+///
+/// ```
+/// use kingletbed::raw;
+/// assert_eq!(raw::tile_size(12361), 1);
+/// ```
+#[must_use]
+pub fn tile_size(word: u32) -> u32 {
+    unsafe { kb_tile_size(word) }
+}
+
+/// `kb_tile_account`. The account that a word says, for every word.
+///
+/// ```
+/// use kingletbed::raw;
+/// assert_eq!(raw::tile_account(12361), 9);
+/// ```
+#[must_use]
+pub fn tile_account(word: u32) -> u8 {
+    unsafe { kb_tile_account(word) }
+}
+
+#[cfg(test)]
+mod tests {
+    use super::*;
+    use core::ptr::null_mut;
+
+    /// An empty slice may come with any pointer, so with none.
+    #[test]
+    fn null_pointers_of_length_zero() {
+        unsafe {
+            assert_eq!(kb_check(10, 0, null_mut(), 0), 0);
+            assert_eq!(kb_check(10, 1, null_mut(), 0), 2);
+            assert_eq!(kb_fresh(0, 3, null_mut(), 0), Fresh { number: 0, kind: 0, order: 3, pixels: 0, tiles: 0 });
+            let fed = |number, taken, pixels| Fed { number, taken, kind: 1, order: 1, pixels, tiles: 0 };
+            assert_eq!(kb_feed(1, 1, 2, 0, null_mut(), 0, null_mut(), 0), fed(0, 0, 2));
+            assert_eq!(kb_feed(1, 1, 2, 0, null_mut(), 0, [0, 5].as_ptr(), 2), fed(25, 1, 3));
+            assert_eq!(kb_decode(0, 0, null_mut(), 0, null_mut(), 0), 33);
+            assert_eq!(kb_lookup(10, 0, null_mut(), 0, 1023, 1023), Found { number: 0, account: 0 });
+            assert_eq!(kb_part(10, 0, null_mut(), 0, 4, 1), Part { number: 0, position: 0, length: 0 });
+            assert_eq!(kb_rights(0, 0, null_mut(), 0, 0, 0, 8), Right { number: 0, yes: 1 });
+            assert_eq!(kb_claim(0, 0, null_mut(), 0, 0, 0, 8), Claimed { number: 25, tiles: 0 });
+            assert_eq!(kb_claim(0, 0, null_mut(), 0, 0, 0, 0), Claimed { number: 0, tiles: 0 });
+            assert_eq!(kb_write(0, 0, null_mut(), 0, null_mut(), 0), Written { number: 26, length: 0 });
+            assert_eq!(kb_read(null_mut(), 0, null_mut(), 0), Reading { number: 41, order: 0, tiles: 0 });
+            assert_eq!(
+                kb_read([4, 0, 0, 0, 0, 0].as_ptr(), 6, null_mut(), 0),
+                Reading { number: 0, order: 4, tiles: 0 }
+            );
+        }
+    }
+}

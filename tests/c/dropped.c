@@ -1,0 +1,39 @@
+/* Every call with its answer dropped: a warning each. */
+#include "kingletbed.h"
+
+void drop(kb_scan *scan, uint32_t *slots, uint8_t *bytes);
+
+void drop(kb_scan *scan, uint32_t *slots, uint8_t *bytes)
+{
+    kb_account_byte(0);
+    kb_extent(0);
+    kb_morton(0, 0, 0);
+    kb_block(0, 0, 0, 0);
+    kb_point(0, 0);
+    kb_tile_corner(0);
+    kb_tile_size(0);
+    kb_tile_account(0);
+    kb_check(0, 0, slots, 1);
+    kb_fresh(KB_ROWS, 0, slots, 1);
+    kb_feed(KB_ROWS, 0, 0, 0, slots, 1, bytes, 1);
+    kb_decode(0, 0, slots, 1, bytes, 1);
+    kb_lookup(0, 0, slots, 1, 0, 0);
+    kb_part(0, 0, slots, 1, 0, 0);
+    kb_part_tiles(0, 0, slots, 1, 0, 0);
+    kb_rights(0, 0, slots, 1, 0, 0, 1);
+    kb_claim(0, 0, slots, 1, 0, 0, 1);
+    kb_write(0, 0, slots, 1, bytes, 1);
+    kb_read(bytes, 1, slots, 1);
+    kb_scan_fresh(scan, KB_ROWS, 0, slots, 1);
+    kb_scan_read(scan, bytes, 1, slots, 1);
+    kb_scan_feed(scan, bytes, 1);
+    kb_scan_claim(scan, 0, 0, 1);
+    kb_scan_check(scan);
+    kb_scan_decode(scan, bytes, 1);
+    kb_scan_lookup(scan, 0, 0);
+    kb_scan_rights(scan, 0, 0, 1);
+    kb_scan_part(scan, 0, 0);
+    kb_scan_shown(scan, 0, 0);
+    kb_scan_write(scan, bytes, 1);
+    kb_refusal_text(0);
+}

@@ -1,0 +1,28 @@
+/* Runs the tests of the header; 0 if nothing failed. */
+#include "test.h"
+
+#include <stdio.h>
+
+static int failures;
+
+void test_failed(const char *condition, const char *file, int line)
+{
+    printf("%s:%d: %s\n", file, line, condition);
+    failures++;
+}
+
+int main(void)
+{
+    test_numbers();
+    test_limits();
+    test_texts();
+    test_empty();
+    test_fresh();
+    test_feed();
+    test_claim();
+    test_accounts();
+    test_file();
+    test_shown();
+    test_many_claims();
+    return failures > 0;
+}

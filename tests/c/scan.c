@@ -1,0 +1,199 @@
+/* The scan with its slots: what each function leaves in it, and what a block shows. */
+#include "test.h"
+
+#include <string.h>
+
+/* Bed M of the rules: rows 5 5 0 0, 5 5 0 9, 9 0 9 9 and 0 0 9 9, in 4 tiles. */
+static const uint8_t bed_m[16] = {5, 5, 0, 0, 5, 5, 0, 9, 9, 0, 9, 9, 0, 0, 9, 9};
+
+static int same(const kb_scan *one, const kb_scan *other)
+{
+    return one->kind == other->kind && one->order == other->order && one->pixels == other->pixels
+           && one->tiles == other->tiles && one->slots == other->slots && one->slots_length == other->slots_length;
+}
+
+static void scan_bed_m(kb_scan *scan, uint32_t *slots, size_t slots_length)
+{
+    CHECK(kb_scan_fresh(scan, KB_ROWS, 2, slots, slots_length) == KB_ACCEPTED);
+    CHECK(kb_scan_feed(scan, bed_m, 16).number == KB_ACCEPTED);
+    CHECK(scan->tiles == 4 && scan->pixels == 16);
+}
+
+void test_empty(void)
+{
+    kb_scan scan = NO_SCAN;
+    uint8_t account = 0, file[6];
+    CHECK(kb_scan_check(&scan) == KB_ACCEPTED);
+    CHECK(kb_scan_lookup(&scan, 0, 0).number == KB_ACCEPTED && kb_scan_lookup(&scan, 0, 0).account == 0);
+    CHECK(kb_scan_shown(&scan, 0, 0).number == KB_ACCEPTED && kb_scan_shown(&scan, 0, 0).account == 0);
+    CHECK(kb_scan_write(&scan, file, 6).length == 6);
+    CHECK(kb_scan_claim(&scan, 0, 0, 7) == KB_SLOTS_EXCEEDED && scan.tiles == 0);
+    CHECK(kb_scan_feed(&scan, NULL, 0).number == KB_ACCEPTED);
+    CHECK(kb_scan_feed(&scan, &account, 1).taken == 1 && scan.pixels == 1);
+}
+
+void test_fresh(void)
+{
+    uint32_t slots[8], others[3] = {1, 2, 3};
+    kb_scan scan = NO_SCAN;
+    scan_bed_m(&scan, slots, 8);
+    kb_scan before = scan;
+    CHECK(kb_scan_fresh(&scan, KB_MORTON, 11, others, 3) == KB_ORDER_TOO_LARGE);
+    CHECK(same(&scan, &before) && others[0] == 1 && others[2] == 3);
+    CHECK(kb_scan_lookup(&scan, 0, 0).account == 5);
+
+    CHECK(kb_scan_fresh(&scan, 7, 1, others, 3) == KB_ACCEPTED);
+    CHECK(scan.kind == KB_MORTON && scan.order == 1 && scan.pixels == 0 && scan.tiles == 0);
+    CHECK(scan.slots == others && scan.slots_length == 3 && others[0] == 0 && others[2] == 0);
+}
+
+void test_feed(void)
+{
+    uint32_t slots[2];
+    const uint8_t bad[3] = {7, 64, 7}, good[3] = {7, 7, 7}, scattered[4] = {1, 2, 3, 4};
+    kb_scan scan = NO_SCAN;
+    CHECK(kb_scan_fresh(&scan, KB_ROWS, 1, slots, 2) == KB_ACCEPTED);
+    kb_feed_answer fed = kb_scan_feed(&scan, bad, 3);
+    CHECK(fed.number == KB_ACCOUNT_TOO_LARGE && fed.taken == 1 && scan.pixels == 1 && scan.tiles == 1);
+    fed = kb_scan_feed(&scan, good, 1);
+    CHECK(fed.number == KB_ACCEPTED && scan.pixels == 2 && scan.tiles == 2);
+    fed = kb_scan_feed(&scan, good, 1);
+    CHECK(fed.number == KB_SLOTS_EXCEEDED && fed.taken == 0 && scan.pixels == 2 && scan.tiles == 2);
+
+    CHECK(kb_scan_fresh(&scan, KB_ROWS, 1, slots, 2) == KB_ACCEPTED);
+    fed = kb_scan_feed(&scan, scattered, 4);
+    CHECK(fed.number == KB_SLOTS_EXCEEDED && fed.taken == 2 && scan.pixels == 2 && scan.tiles == 2);
+    kb_scan before = scan;
+    slots[0] = UINT32_MAX;
+    fed = kb_scan_feed(&scan, good, 1);
+    CHECK(fed.number == KB_HIGH_BITS_SET && fed.taken == 0 && same(&scan, &before));
+    CHECK(kb_scan_check(&scan) == KB_HIGH_BITS_SET);
+}
+
+void test_claim(void)
+{
+    uint32_t slots[6], kept[6];
+    uint8_t raster[16];
+    kb_scan scan = NO_SCAN;
+    scan_bed_m(&scan, slots, 6);
+    CHECK(kb_scan_claim(&scan, 4, 0, 9) == KB_ACCEPTED && scan.tiles == 5);
+    CHECK(kb_scan_claim(&scan, 11, 0, 12) == KB_ACCEPTED && scan.tiles == 6);
+    memcpy(kept, slots, sizeof slots);
+    CHECK(kb_scan_claim(&scan, 5, 0, 12) == KB_SLOTS_EXCEEDED && scan.tiles == 6);
+    CHECK(kb_scan_claim(&scan, 2, 1, 9) == KB_BLOCK_INVALID && scan.tiles == 6);
+    CHECK(memcmp(kept, slots, sizeof slots) == 0);
+    CHECK(kb_scan_decode(&scan, raster, 15) == KB_RASTER_LENGTH);
+    CHECK(kb_scan_decode(&scan, raster, 16) == KB_ACCEPTED && raster[2] == 9 && raster[0] == 5);
+    CHECK(kb_scan_claim(&scan, 0, 2, 0) == KB_ACCEPTED && scan.tiles == 0 && scan.pixels == 16);
+}
+
+/* Accounts that a byte would cut are refused. */
+void test_accounts(void)
+{
+    static const uint32_t strange[] = {64, 254, 255, 256, 257, 256 + 9, 512, 65536, 65536 + 9, UINT32_MAX};
+    uint32_t slots[8], kept[8];
+    kb_scan scan = NO_SCAN;
+    scan_bed_m(&scan, slots, 8);
+    memcpy(kept, slots, sizeof slots);
+    for (size_t i = 0; i < sizeof strange / sizeof *strange; i++) {
+        CHECK(kb_scan_claim(&scan, 0, 1, strange[i]) == KB_ACCOUNT_TOO_LARGE && scan.tiles == 4);
+        CHECK(kb_scan_rights(&scan, 0, 0, strange[i]).number == KB_ASKER_INVALID);
+        CHECK(memcmp(kept, slots, sizeof slots) == 0);
+    }
+    for (uint32_t account = 0; account < 255; account++)
+        CHECK(kb_account_byte(account) == account);
+    CHECK(kb_scan_rights(&scan, 0, 0, 0).number == KB_ASKER_INVALID);
+    CHECK(kb_scan_rights(&scan, 0, 0, 5).yes == 1 && kb_scan_rights(&scan, 0, 0, 9).yes == 0);
+    CHECK(kb_scan_rights(&scan, 3, 1, 12).yes == 0 && kb_scan_rights(&scan, 1, 3, 12).yes == 1);
+    CHECK(kb_scan_rights(&scan, 4, 0, 5).number == KB_POINT_OUTSIDE);
+}
+
+void test_file(void)
+{
+    uint32_t slots[8], others[4] = {1, 2, 3, 4};
+    uint8_t file[KB_FILE_MOST(8)];
+    kb_scan scan = NO_SCAN, again = NO_SCAN;
+    scan_bed_m(&scan, slots, 8);
+    CHECK(kb_scan_write(&scan, file, 31).number == KB_BYTES_TOO_FEW);
+    CHECK(kb_scan_write(&scan, file, sizeof file).length == 32);
+
+    kb_scan before = scan;
+    CHECK(kb_scan_read(&scan, file, 31, others, 4) == KB_FILE_CUT_SHORT);
+    CHECK(kb_scan_read(&scan, file, 32, others, 3) == KB_SLOTS_EXCEEDED);
+    CHECK(same(&scan, &before) && others[0] == 1 && others[3] == 4);
+
+    CHECK(kb_scan_read(&again, file, 32, others, 4) == KB_ACCEPTED);
+    CHECK(again.kind == KB_ROWS && again.order == 2 && again.pixels == 16 && again.tiles == 4);
+    CHECK(again.slots == others && again.slots_length == 4 && memcmp(others, slots, sizeof others) == 0);
+    CHECK(kb_scan_feed(&again, bed_m, 1).number == KB_SCAN_FULL && again.tiles == 4);
+}
+
+/* Each block of a bed shows what its pixels are. */
+static void shows(const kb_scan *scan)
+{
+    uint8_t raster[256];
+    kb_extent_answer bed = kb_extent(scan->order);
+    CHECK(bed.pixels <= sizeof raster && kb_scan_decode(scan, raster, bed.pixels) == KB_ACCEPTED);
+    for (uint32_t size = 0; size <= scan->order; size++)
+        for (uint32_t corner = 0; corner < bed.pixels; corner += kb_extent(size).pixels) {
+            kb_shown_answer shown = kb_scan_shown(scan, corner, size);
+            kb_point_answer first = kb_point(scan->order, corner);
+            uint8_t account = raster[first.row * bed.side + first.column];
+            for (uint32_t morton = corner; morton < corner + kb_extent(size).pixels; morton++) {
+                kb_point_answer at = kb_point(scan->order, morton);
+                if (raster[at.row * bed.side + at.column] != account)
+                    account = KB_NO_ACCOUNT;
+            }
+            CHECK(shown.number == KB_ACCEPTED && shown.account == account);
+            CHECK(account != KB_NO_ACCOUNT || shown.length > 0);
+        }
+}
+
+void test_shown(void)
+{
+    uint32_t slots[64];
+    kb_scan scan = NO_SCAN;
+    scan_bed_m(&scan, slots, 64);
+    shows(&scan);
+    kb_shown_answer shown = kb_scan_shown(&scan, 1, 0);
+    CHECK(kb_scan_part(&scan, 1, 0).length == 0 && shown.length == 0 && shown.account == 5);
+    shown = kb_scan_shown(&scan, 0, 1);
+    CHECK(shown.length == 1 && shown.account == 5 && shown.tiles == slots);
+    shown = kb_scan_shown(&scan, 4, 1);
+    CHECK(shown.length == 1 && shown.account == KB_NO_ACCOUNT && shown.tiles == slots + 1);
+    shown = kb_scan_shown(&scan, 5, 0);
+    CHECK(shown.number == KB_ACCEPTED && shown.length == 0 && shown.account == 0);
+    shown = kb_scan_shown(&scan, 1, 1);
+    CHECK(shown.number == KB_BLOCK_INVALID && shown.length == 0 && shown.account == KB_NO_ACCOUNT);
+    CHECK(shown.tiles == slots);
+    slots[0] = 0;
+    shown = kb_scan_shown(&scan, 0, 0);
+    CHECK(shown.number == KB_ACCOUNT_ZERO && shown.length == 0 && shown.account == KB_NO_ACCOUNT);
+}
+
+/* Claims one after another, each through the scan alone, beside a plain bed. */
+void test_many_claims(void)
+{
+    static uint32_t slots[256];
+    uint8_t plain[256] = {0}, raster[256];
+    uint32_t seed = 1;
+    kb_scan scan = NO_SCAN;
+    CHECK(kb_scan_fresh(&scan, KB_MORTON, 4, slots, 256) == KB_ACCEPTED);
+    CHECK(kb_scan_feed(&scan, plain, 256).number == KB_ACCEPTED);
+    for (int turn = 0; turn < 400; turn++) {
+        seed = seed * 1664525 + 1013904223;
+        uint32_t account = seed >> 28 & 3, size = seed >> 24 & 3, column = seed >> 16 & 15, row = seed >> 12 & 15;
+        kb_block_answer block = kb_block(4, column, row, size);
+        CHECK(block.number == KB_ACCEPTED);
+        CHECK(kb_scan_claim(&scan, block.corner, block.size, account) == KB_ACCEPTED);
+        for (uint32_t r = 0; r < 16; r++)
+            for (uint32_t c = 0; c < 16; c++)
+                if (c >> size == column >> size && r >> size == row >> size)
+                    plain[r * 16 + c] = (uint8_t)account;
+        CHECK(kb_scan_decode(&scan, raster, 256) == KB_ACCEPTED && memcmp(raster, plain, 256) == 0);
+        CHECK(kb_scan_lookup(&scan, column, row).account == account);
+        if (turn % 20 == 0)
+            shows(&scan);
+    }
+    CHECK(kb_scan_check(&scan) == KB_ACCEPTED && scan.pixels == 256);
+}
