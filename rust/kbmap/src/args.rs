@@ -1,0 +1,224 @@
+//! The command line.
+
+use crate::failure::Failure;
+use crate::input::Source;
+use crate::output::Target;
+use kingletbed::Pixel;
+use std::ffi::OsString;
+
+/// What `--help` says.
+pub const HELP: &str = include_str!("help.txt");
+
+/// What is to be done.
+#[derive(Debug, PartialEq, Eq)]
+pub enum Command {
+    Help,
+    Version,
+    Check { file: Source },
+    Show { file: Source },
+    At { file: Source, pixel: Pixel },
+    Scan { image: Source, out: Target },
+    Decode { file: Source, out: Target, plain: bool },
+    Claim { file: Source, out: Option<Target>, claim: Claim },
+    Draw { file: Source, out: Target, style: Style },
+}
+
+/// A block to give away: by its corner or a pixel in it, and its size. Without an account it is released.
+#[derive(Debug, PartialEq, Eq)]
+pub struct Claim {
+    pub corner: Corner,
+    pub size: u32,
+    pub account: Option<u32>,
+}
+
+/// A block's corner as a Morton number, or any pixel of the block.
+#[derive(Debug, PartialEq, Eq)]
+pub enum Corner {
+    Morton(u32),
+    In(Pixel),
+}
+
+/// How to draw.
+#[derive(Debug, PartialEq, Eq)]
+pub enum Style {
+    Svg,
+    Html,
+    Terminal { colour: bool, width: Option<usize> },
+}
+
+/// The command of these arguments, those behind the program's name.
+pub fn parse(args: impl IntoIterator<Item = OsString>) -> Result<Command, Failure> {
+    let mut line = Line::of(args)?;
+    if line.flag("--help") {
+        return Ok(Command::Help);
+    }
+    if line.flag("--version") {
+        return Ok(Command::Version);
+    }
+    let Some(name) = line.next() else { return Err(Failure::usage("a command is missing")) };
+    let command = match name.to_str() {
+        Some("help") => Command::Help,
+        Some("check") => Command::Check { file: line.source("FILE")? },
+        Some("show") => Command::Show { file: line.source("FILE")? },
+        Some("at") => Command::At { file: line.source("FILE")?, pixel: line.pixel()? },
+        Some("scan") => Command::Scan { image: line.source("IMAGE")?, out: line.target()? },
+        Some("decode") => {
+            Command::Decode { file: line.source("FILE")?, out: line.target()?, plain: line.flag("--plain") }
+        }
+        Some("claim") => line.claim(true)?,
+        Some("release") => line.claim(false)?,
+        Some("draw") => line.draw()?,
+        _ => return Err(Failure::usage(format!("there is no command {}", name.to_string_lossy()))),
+    };
+    line.end(&name.to_string_lossy())?;
+    Ok(command)
+}
+
+/// The options that are flags, and those that another argument belongs to.
+const FLAGS: [&str; 6] = ["--help", "--version", "--plain", "--svg", "--html", "--colour"];
+const VALUED: [&str; 2] = ["-o", "--width"];
+
+/// The arguments not looked at yet.
+struct Line {
+    words: std::vec::IntoIter<OsString>,
+    flags: Vec<&'static str>,
+    values: Vec<(&'static str, OsString)>,
+}
+
+impl Line {
+    fn of(args: impl IntoIterator<Item = OsString>) -> Result<Line, Failure> {
+        let (mut words, mut flags, mut values) = (Vec::new(), Vec::new(), Vec::new());
+        let mut args = args.into_iter();
+        while let Some(arg) = args.next() {
+            let text = match arg.to_str() {
+                Some("--") => {
+                    words.extend(args);
+                    break;
+                }
+                Some("-h") => "--help",
+                Some("-V") => "--version",
+                Some("--color") => "--colour",
+                Some("--output") => "-o",
+                Some(text) if text.len() > 1 && text.starts_with('-') => text,
+                _ => {
+                    words.push(arg);
+                    continue;
+                }
+            };
+            if let Some(flag) = FLAGS.into_iter().find(|&flag| flag == text) {
+                flags.push(flag);
+            } else if let Some(option) = VALUED.into_iter().find(|&option| option == text) {
+                let value = args.next().ok_or_else(|| Failure::usage(format!("nothing follows {option}")))?;
+                if values.iter().any(|&(earlier, _)| earlier == option) {
+                    return Err(Failure::usage(format!("{option} is there a second time")));
+                }
+                values.push((option, value));
+            } else {
+                return Err(Failure::usage(format!("there is no option {text}")));
+            }
+        }
+        Ok(Line { words: words.into_iter(), flags, values })
+    }
+
+    fn next(&mut self) -> Option<OsString> {
+        self.words.next()
+    }
+
+    fn word(&mut self, what: &str) -> Result<OsString, Failure> {
+        self.next().ok_or_else(|| Failure::usage(format!("{what} is missing")))
+    }
+
+    fn flag(&mut self, name: &str) -> bool {
+        let before = self.flags.len();
+        self.flags.retain(|&flag| flag != name);
+        self.flags.len() < before
+    }
+
+    fn value(&mut self, name: &str) -> Option<OsString> {
+        let at = self.values.iter().position(|&(option, _)| option == name)?;
+        Some(self.values.remove(at).1)
+    }
+
+    fn source(&mut self, what: &str) -> Result<Source, Failure> {
+        self.word(what).map(Source::of)
+    }
+
+    fn target(&mut self) -> Result<Target, Failure> {
+        let missing = || Failure::usage("-o is missing: where should the result go?");
+        self.value("-o").map(Target::of).ok_or_else(missing)
+    }
+
+    fn number(&mut self, what: &str) -> Result<u32, Failure> {
+        let word = self.word(what)?;
+        number(what, &word.to_string_lossy())
+    }
+
+    fn pixel(&mut self) -> Result<Pixel, Failure> {
+        Ok(Pixel { column: self.number("COLUMN")?, row: self.number("ROW")? })
+    }
+
+    fn claim(&mut self, account: bool) -> Result<Command, Failure> {
+        let file = self.source("FILE")?;
+        let corner = corner(&self.word("CORNER")?.to_string_lossy())?;
+        let size = self.number("SIZE")?;
+        let account = if account { Some(self.number("ACCOUNT")?) } else { None };
+        let out = self.value("-o").map(Target::of);
+        Ok(Command::Claim { file, out, claim: Claim { corner, size, account } })
+    }
+
+    fn draw(&mut self) -> Result<Command, Failure> {
+        let file = self.source("FILE")?;
+        let out = self.value("-o").map_or(Target::Standard, Target::of);
+        let style = match (self.flag("--svg"), self.flag("--html"), ending(&out)) {
+            (true, true, _) => return Err(Failure::usage("--svg and --html exclude each other")),
+            (true, false, _) => Style::Svg,
+            (false, true, _) => Style::Html,
+            (false, false, Some("svg")) => Style::Svg,
+            (false, false, Some("html" | "htm")) => Style::Html,
+            _ if out == Target::Standard => Style::Terminal { colour: self.flag("--colour"), width: self.width()? },
+            _ => return Err(Failure::usage(format!("{} ends neither in .svg nor in .html", out.name()))),
+        };
+        Ok(Command::Draw { file, out, style })
+    }
+
+    fn width(&mut self) -> Result<Option<usize>, Failure> {
+        match self.value("--width") {
+            Some(word) => Ok(usize::try_from(number("--width", &word.to_string_lossy())?).ok()),
+            None => Ok(None),
+        }
+    }
+
+    /// Nothing may be left over.
+    fn end(mut self, command: &str) -> Result<(), Failure> {
+        let option = self.flags.first().copied().or(self.values.first().map(|&(option, _)| option));
+        match (self.next(), option) {
+            (Some(word), _) => Err(Failure::usage(format!("{command} takes no further {}", word.to_string_lossy()))),
+            (None, Some(option)) => Err(Failure::usage(format!("{command} takes no {option} here"))),
+            (None, None) => Ok(()),
+        }
+    }
+}
+
+fn number(what: &str, word: &str) -> Result<u32, Failure> {
+    let digits = !word.is_empty() && word.bytes().all(|byte| byte.is_ascii_digit());
+    let number = if digits { word.parse().ok() } else { None };
+    number.ok_or_else(|| Failure::usage(format!("{what} is a whole number from 0 to {}, not {word}", u32::MAX)))
+}
+
+fn corner(word: &str) -> Result<Corner, Failure> {
+    match word.split_once(',') {
+        Some((column, row)) => Ok(Corner::In(Pixel { column: number("COLUMN", column)?, row: number("ROW", row)? })),
+        None => Ok(Corner::Morton(number("CORNER", word)?)),
+    }
+}
+
+/// The ending of a file's name.
+fn ending(out: &Target) -> Option<&str> {
+    match out {
+        Target::Standard => None,
+        Target::File(path) => path.extension()?.to_str(),
+    }
+}
+
+#[cfg(test)]
+mod tests;

@@ -1,0 +1,100 @@
+//! Command lines, good and bad.
+
+use super::*;
+use std::path::PathBuf;
+
+fn parsed(line: &str) -> Result<Command, Failure> {
+    parse(line.split_whitespace().map(OsString::from))
+}
+
+fn bed() -> Source {
+    Source::File("bed.map".into())
+}
+
+fn to(name: &str) -> Target {
+    Target::File(PathBuf::from(name))
+}
+
+#[test]
+fn commands() {
+    assert_eq!(parsed("check bed.map"), Ok(Command::Check { file: bed() }));
+    assert_eq!(parsed("check -"), Ok(Command::Check { file: Source::Standard }));
+    assert_eq!(parsed("show -- -odd"), Ok(Command::Show { file: Source::File("-odd".into()) }));
+    assert_eq!(parsed("at bed.map 3 1"), Ok(Command::At { file: bed(), pixel: Pixel { column: 3, row: 1 } }));
+    let image = Source::File("bed.pgm".into());
+    assert_eq!(parsed("scan -o bed.map bed.pgm"), Ok(Command::Scan { image, out: to("bed.map") }));
+    let decode = |plain| Ok(Command::Decode { file: bed(), out: Target::Standard, plain });
+    assert_eq!(parsed("decode bed.map -o -"), decode(false));
+    assert_eq!(parsed("decode bed.map --output - --plain"), decode(true));
+}
+
+#[test]
+fn help_and_version() {
+    for line in ["--help", "-h", "help", "check --help", "draw -h nothing"] {
+        assert_eq!(parsed(line), Ok(Command::Help));
+    }
+    assert_eq!(parsed("--version"), Ok(Command::Version));
+    assert_eq!(parsed("-V"), Ok(Command::Version));
+}
+
+#[test]
+fn claims() {
+    let claim = |corner, account| Claim { corner, size: 3, account };
+    let at = Corner::In(Pixel { column: 40, row: 24 });
+    let claimed = Command::Claim { file: bed(), out: None, claim: claim(Corner::Morton(2496), Some(21)) };
+    assert_eq!(parsed("claim bed.map 2496 3 21"), Ok(claimed));
+    let released = Command::Claim { file: bed(), out: Some(to("new.map")), claim: claim(at, None) };
+    assert_eq!(parsed("release bed.map 40,24 3 -o new.map"), Ok(released));
+    let piped = Command::Claim { file: Source::Standard, out: None, claim: claim(Corner::Morton(0), None) };
+    assert_eq!(parsed("release - 0 3"), Ok(piped));
+}
+
+#[test]
+fn drawings() {
+    let draw = |out, style| Ok(Command::Draw { file: bed(), out, style });
+    assert_eq!(parsed("draw bed.map -o bed.svg"), draw(to("bed.svg"), Style::Svg));
+    assert_eq!(parsed("draw bed.map -o bed.html"), draw(to("bed.html"), Style::Html));
+    assert_eq!(parsed("draw bed.map -o odd --html"), draw(to("odd"), Style::Html));
+    assert_eq!(parsed("draw bed.map --svg -o -"), draw(Target::Standard, Style::Svg));
+    let terminal = |colour, width| draw(Target::Standard, Style::Terminal { colour, width });
+    assert_eq!(parsed("draw bed.map"), terminal(false, None));
+    assert_eq!(parsed("draw bed.map -o - --color --width 60"), terminal(true, Some(60)));
+}
+
+fn hint(line: &str) -> String {
+    let failure = parsed(line).unwrap_err();
+    assert_eq!(failure.status, 2);
+    failure.message.unwrap().strip_suffix("; see kbmap --help").unwrap().to_owned()
+}
+
+#[test]
+fn mistakes() {
+    assert_eq!(hint(""), "a command is missing");
+    assert_eq!(hint("paint bed.map"), "there is no command paint");
+    assert_eq!(hint("check"), "FILE is missing");
+    assert_eq!(hint("check a b"), "check takes no further b");
+    assert_eq!(hint("check a --plain"), "check takes no --plain here");
+    assert_eq!(hint("check a -o b"), "check takes no -o here");
+    assert_eq!(hint("check a --fast"), "there is no option --fast");
+    assert_eq!(hint("scan a"), "-o is missing: where should the result go?");
+    assert_eq!(hint("scan a -o"), "nothing follows -o");
+    assert_eq!(hint("scan a -o b -o c"), "-o is there a second time");
+    assert_eq!(hint("at a 1"), "ROW is missing");
+    assert_eq!(hint("at a 1 x"), "ROW is a whole number from 0 to 4294967295, not x");
+    assert_eq!(hint("at a +1 2"), "COLUMN is a whole number from 0 to 4294967295, not +1");
+    assert_eq!(hint("claim a 1,2 4294967296 3"), "SIZE is a whole number from 0 to 4294967295, not 4294967296");
+    assert_eq!(hint("claim a 1, 2 3"), "ROW is a whole number from 0 to 4294967295, not ");
+    assert_eq!(hint("release a 0 1 2"), "release takes no further 2");
+    assert_eq!(hint("draw a -o b.png"), "b.png ends neither in .svg nor in .html");
+    assert_eq!(hint("draw a --svg --html"), "--svg and --html exclude each other");
+    assert_eq!(hint("draw a -o b.svg --colour"), "draw takes no --colour here");
+}
+
+/// The help fits a terminal of 80 columns and names every command.
+#[test]
+fn help() {
+    assert!(HELP.lines().all(|line| line.len() <= 80));
+    for command in ["check", "show", "at", "scan", "decode", "claim", "release", "draw"] {
+        assert!(HELP.contains(&format!("  kbmap {command} ")), "{command}");
+    }
+}

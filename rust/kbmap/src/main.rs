@@ -1,0 +1,49 @@
+//! kbmap: checks, shows, changes and draws map files of a machine's bed. All work on maps is the library's; this
+//! program reads, writes and tells.
+
+#![forbid(unsafe_code)]
+
+mod args;
+mod colour;
+mod commands;
+mod drawing;
+mod failure;
+mod input;
+mod layout;
+mod locate;
+mod map;
+mod output;
+mod page;
+mod pgm;
+mod progress;
+mod svg;
+mod terminal;
+mod words;
+
+use args::Command;
+use failure::Failure;
+use std::process::ExitCode;
+
+fn main() -> ExitCode {
+    match args::parse(std::env::args_os().skip(1)).and_then(obey) {
+        Ok(()) => ExitCode::SUCCESS,
+        Err(failure) => {
+            failure.tell();
+            ExitCode::from(failure.status)
+        }
+    }
+}
+
+fn obey(command: Command) -> Result<(), Failure> {
+    match command {
+        Command::Help => output::print(args::HELP),
+        Command::Version => output::print(concat!("kbmap ", env!("CARGO_PKG_VERSION"), "\n")),
+        Command::Check { file } => commands::check(&file),
+        Command::Show { file } => commands::show(file),
+        Command::At { file, pixel } => commands::at(file, pixel),
+        Command::Scan { image, out } => commands::scan(&image, &out),
+        Command::Decode { file, out, plain } => commands::decode(file, &out, plain),
+        Command::Claim { file, out, claim } => commands::claim(file, out, &claim),
+        Command::Draw { file, out, style } => commands::draw(file, &out, &style),
+    }
+}

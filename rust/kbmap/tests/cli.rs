@@ -1,0 +1,261 @@
+//! The program on good files and on refused ones.
+
+mod common;
+
+use common::{answer, noise, Answer, Scratch, BED, PICTURE};
+use std::fs;
+
+fn ok(text: &str) -> Answer {
+    Answer { status: 0, out: text.as_bytes().to_vec(), err: String::new() }
+}
+
+fn refused(err: &str) -> Answer {
+    Answer { status: 1, out: Vec::new(), err: err.to_owned() }
+}
+
+#[test]
+fn help_and_version() {
+    let scratch = Scratch::new();
+    let help = scratch.kbmap("--help");
+    assert!(help.status == 0 && help.text().starts_with("kbmap: ") && help.err.is_empty());
+    assert_eq!(scratch.kbmap("--version"), ok(&format!("kbmap {}\n", env!("CARGO_PKG_VERSION"))));
+}
+
+#[test]
+fn check() {
+    let scratch = Scratch::with_bed();
+    assert_eq!(scratch.kbmap("check bed.map"), ok("bed.map: a map of order 2, 4 by 4 pixels, 4 tiles, 32 bytes\n"));
+    let said = "standard input: a map of order 2, 4 by 4 pixels, 4 tiles, 32 bytes\n";
+    assert_eq!(scratch.fed("check -", &BED), ok(said));
+}
+
+/// Each refusal of a file: its number, its name, and the byte.
+#[test]
+fn check_refuses() {
+    let scratch = Scratch::new();
+    let cases: [(usize, u8, &str, &str); 8] = [
+        (0, 11, "1 ORDER_TOO_LARGE", "byte 0: the order is 11"),
+        (
+            1,
+            9,
+            "25 SLOTS_EXCEEDED",
+            "bytes 1 to 4: the tile count is 150994948, and no bed has more than 1048576 tiles",
+        ),
+        (5, 64, "11 HIGH_BITS_SET", "word 0 (the first is 0), bytes 5 to 8, 0x40000045"),
+        (
+            8,
+            0xc5,
+            "12 SIZE_ABOVE_ORDER",
+            "word 0 (the first is 0), bytes 5 to 8, 0x000000c5: account 5, corner 0, size 3",
+        ),
+        (7, 4, "13 CORNER_INVALID", "word 0 (the first is 0), bytes 5 to 8, 0x00000445: account 5, corner 1, size 1"),
+        (16, 0, "14 ACCOUNT_ZERO", "word 2 (the first is 0), bytes 13 to 16"),
+        (11, 8, "15 TILES_OVERLAP", "word 1 (the first is 0), bytes 9 to 12, 0x00000809: account 9, corner 2, size 0"),
+        (
+            26,
+            5,
+            "43 ROSTER_WRONG",
+            "entry 0 (the first is 0), byte 22: account 5 has 5 pixels here, and 4 by the tiles",
+        ),
+    ];
+    for (at, byte, name, told) in cases {
+        let mut bytes = BED;
+        bytes[at] = byte;
+        scratch.put("bad.map", &bytes);
+        let answer = scratch.kbmap("check bad.map");
+        assert_eq!((answer.status, answer.err.as_str()), (1, ""));
+        let text = answer.text();
+        assert!(text.starts_with(&format!("bad.map: refused, {name}: ")), "{text}");
+        assert!(text.contains(told), "{text}");
+    }
+}
+
+#[test]
+fn check_refuses_other_lengths() {
+    let scratch = Scratch::new();
+    let short = scratch.fed("check -", &BED[..20]);
+    let detail = "  the file has 20 bytes; with 4 tiles its roster begins at byte 21\n";
+    assert_eq!(short.text(), format!("standard input: refused, 41 FILE_CUT_SHORT: the file ends too early\n{detail}"));
+    assert_eq!(short.status, 1);
+    let long = scratch.fed("check -", &[&BED[..], &[0]].concat());
+    assert!(long.text().ends_with("\n  byte 32: the file should end here, and 1 byte follows\n"));
+    assert!(scratch.fed("check -", b"").text().ends_with("\n  the file is empty\n"));
+    let endless = scratch.kbmap("check /dev/zero");
+    assert_eq!(endless, refused("kbmap: /dev/zero: longer than 64 MB: no map file and no picture of a bed is\n"));
+}
+
+#[test]
+fn show() {
+    let text = "bed.map
+  order   2  4 by 4 pixels
+  tiles   4  by 2 accounts
+  held   10  pixels, 62.5 %
+  free    6  pixels, 37.5 %
+
+  account  class      tiles   pixels    share
+        5  staff          1        4   25.0 %
+        9  student        3        6   37.5 %
+";
+    assert_eq!(Scratch::with_bed().kbmap("show bed.map"), ok(text));
+}
+
+#[test]
+fn at() {
+    let scratch = Scratch::with_bed();
+    let held =
+        "column 3, row 2: account 9, student\n  tile: corner 12, size 1: columns 2 to 3, rows 2 to 3, 4 pixels\n";
+    assert_eq!(scratch.kbmap("at bed.map 3 2"), ok(held));
+    let single = "column 3, row 1: account 9, student\n  tile: corner 7, size 0: column 3, row 1, 1 pixel\n";
+    assert_eq!(scratch.kbmap("at bed.map 3 1"), ok(single));
+    assert_eq!(scratch.kbmap("at bed.map 1 2"), ok("column 1, row 2: nobody's\n  no tile has it\n"));
+    let outside = "kbmap: bed.map: refused, 31 POINT_OUTSIDE: the pixel is off the bed\n  \
+                   column 4, row 0, on a bed of 4 by 4 pixels\n";
+    assert_eq!(scratch.kbmap("at bed.map 4 0"), refused(outside));
+}
+
+/// Every pixel of a bed of many accounts, as the picture has it.
+#[test]
+fn at_every_pixel() {
+    let scratch = Scratch::new();
+    let picture = noise(8);
+    assert_eq!(scratch.fed("scan - -o bed.map", &picture).status, 0);
+    for (at, &account) in picture[picture.len() - 64..].iter().enumerate() {
+        let (column, row) = (at % 8, at / 8);
+        let answer = scratch.kbmap(&format!("at bed.map {column} {row}"));
+        let who = if account == 0 { "nobody's\n".to_owned() } else { format!("account {account}, ") };
+        let text = answer.text();
+        assert!(text.starts_with(&format!("column {column}, row {row}: {who}")), "{text}");
+    }
+}
+
+#[test]
+fn scan_and_decode() {
+    let scratch = Scratch::new();
+    scratch.put("bed.pgm", PICTURE);
+    assert_eq!(scratch.kbmap("scan bed.pgm -o bed.map"), ok("bed.map: order 2, 4 by 4 pixels, 4 tiles\n"));
+    assert_eq!(scratch.get("bed.map"), BED);
+    assert_eq!(scratch.kbmap("decode bed.map -o out.pgm"), ok("out.pgm: 4 by 4 pixels, grey value = account\n"));
+    assert_eq!(scratch.get("out.pgm"), PICTURE);
+    let plain = "P2\n4 4\n63\n 5  5  0  0\n 5  5  0  9\n 9  0  9  9\n 0  0  9  9\n";
+    assert_eq!(scratch.kbmap("decode bed.map --plain -o -"), ok(plain));
+    let piped = scratch.fed("scan - -o -", plain.as_bytes());
+    assert_eq!((piped.status, piped.out.as_slice()), (0, &BED[..]));
+    assert_eq!(piped.err, "standard output: order 2, 4 by 4 pixels, 4 tiles\n");
+    assert_eq!(scratch.fed("decode - -o -", &BED).out, PICTURE);
+}
+
+/// All orders, there and back.
+#[test]
+fn all_orders() {
+    let scratch = Scratch::new();
+    for order in 0..=10 {
+        let picture = noise(1 << order);
+        let scanned = scratch.fed("scan - -o bed.map", &picture);
+        assert!(scanned.text().starts_with(&format!("bed.map: order {order}, ")), "{scanned:?}");
+        let decoded = scratch.kbmap("decode bed.map -o -");
+        assert!(decoded.status == 0 && decoded.out == picture, "order {order}");
+    }
+}
+
+#[test]
+fn scan_takes_greys_as_they_are() {
+    let scratch = Scratch::new();
+    let answer = scratch.fed("scan - -o bed.map", b"P2 1 1 255 63");
+    let note = "  the picture's maxval is 255; grey values were taken as they are, not scaled\n";
+    assert_eq!(answer, ok(&format!("bed.map: order 0, 1 by 1 pixel, 1 tile\n{note}")));
+    assert!(scratch.kbmap("at bed.map 0 0").text().starts_with("column 0, row 0: account 63, guest\n"));
+}
+
+#[test]
+fn scan_refuses() {
+    let scratch = Scratch::new();
+    let sides = "a bed is a square with a side of 1, 2, 4, 8, 16, 32, 64, 128, 256, 512 or 1024 pixels";
+    let oblong = format!("kbmap: standard input: the picture is 4 by 2 pixels; {sides}\n");
+    assert_eq!(scratch.fed("scan - -o x.map", b"P2 4 2 63 1 1 1 1 1 1 1 1"), refused(&oblong));
+    let bright = "kbmap: standard input: refused, 24 ACCOUNT_TOO_LARGE: the account is above 63\n  \
+                  column 1, row 1: grey value 64\n";
+    assert_eq!(scratch.fed("scan - -o x.map", b"P2 2 2 255 1 2 3 64"), refused(bright));
+    let deep = scratch.fed("scan - -o x.map", b"P5 2 2 65535\n\0\0\0\0\0\0\0\0");
+    assert!(deep.status == 1 && deep.err.contains("the maxval is 65535"), "{}", deep.err);
+    let other = scratch.fed("scan - -o x.map", b"\x89PNG");
+    assert!(other.status == 1 && other.err.contains("neither with P5 nor with P2"), "{}", other.err);
+    assert!(scratch.names().is_empty());
+}
+
+#[test]
+fn claim_and_release() {
+    let scratch = Scratch::with_bed();
+    let claimed = "bed.map: columns 2 to 3, rows 0 to 1: now account 9's, student\n  tiles: 4 before, 4 after\n";
+    assert_eq!(scratch.kbmap("claim bed.map 3,0 1 9"), ok(claimed));
+    assert!(scratch.kbmap("at bed.map 2 0").text().starts_with("column 2, row 0: account 9, student\n"));
+    let released = "bed.map: column 0, row 0: now nobody's\n  tiles: 4 before, 6 after\n";
+    assert_eq!(scratch.kbmap("release bed.map 0 0"), ok(released));
+    let back = scratch.kbmap("claim bed.map 0 0 5");
+    assert!(back.text().ends_with("6 before, 4 after\n"));
+    assert_eq!(scratch.names(), ["bed.map"]);
+}
+
+#[test]
+fn claim_elsewhere() {
+    let scratch = Scratch::with_bed();
+    assert_eq!(scratch.kbmap("claim bed.map 0 2 63 -o new.map").status, 0);
+    assert_eq!(scratch.get("bed.map"), BED);
+    assert_eq!(scratch.get("new.map"), [2, 0, 0, 0, 1, 0, 0, 0, 0xbf, 1, 63, 0, 0, 0, 16]);
+    let piped = scratch.fed("release - 0 2", &BED);
+    assert_eq!((piped.status, piped.out.as_slice()), (0, &[2, 0, 0, 0, 0, 0][..]));
+    assert!(piped.err.ends_with("4 before, 0 after\n"), "{}", piped.err);
+}
+
+#[test]
+fn claim_refuses() {
+    let scratch = Scratch::with_bed();
+    let detail = "on a bed of order 2, 4 by 4 pixels, 4 tiles\n";
+    let invalid = "kbmap: bed.map: refused, 32 BLOCK_INVALID: ";
+    let cases = [
+        ("claim bed.map 1 1 9", invalid, "corner 1, size 1, account 9, "),
+        ("release bed.map 0 3", invalid, "corner 0, size 3, "),
+        (
+            "claim bed.map 9,9 3 9",
+            "kbmap: bed.map: refused, 31 ",
+            "the block around column 9, row 9, size 3, account 9, ",
+        ),
+        ("claim bed.map 0 0 64", "kbmap: bed.map: refused, 24 ", "corner 0, size 0, account 64, "),
+        ("claim bed.map 0 0 261", "kbmap: bed.map: refused, 24 ", "corner 0, size 0, account 261, "),
+    ];
+    for (line, start, asked) in cases {
+        let answer = scratch.kbmap(line);
+        assert!(answer.status == 1 && answer.out.is_empty(), "{line}");
+        assert!(answer.err.starts_with(start), "{}", answer.err);
+        assert!(answer.err.ends_with(&format!("\n  {asked}{detail}")), "{}", answer.err);
+    }
+    assert_eq!(scratch.get("bed.map"), BED);
+}
+
+/// The file that is replaced keeps its permissions, and a link to it stays a link.
+#[cfg(unix)]
+#[test]
+fn claim_keeps_permissions_and_links() {
+    use std::os::unix::fs::{symlink, PermissionsExt};
+    let scratch = Scratch::with_bed();
+    let bed = scratch.path.join("bed.map");
+    fs::set_permissions(&bed, fs::Permissions::from_mode(0o640)).unwrap();
+    symlink("bed.map", scratch.path.join("link.map")).unwrap();
+    assert_eq!(scratch.kbmap("release link.map 0 2").status, 0);
+    assert!(scratch.path.join("link.map").is_symlink());
+    assert_eq!(scratch.get("bed.map"), [2, 0, 0, 0, 0, 0]);
+    assert_eq!(fs::metadata(&bed).unwrap().permissions().mode() & 0o777, 0o640);
+    assert_eq!(scratch.names(), ["bed.map", "link.map"]);
+}
+
+/// A name need not be text.
+#[cfg(unix)]
+#[test]
+fn odd_names() {
+    use std::os::unix::ffi::OsStrExt;
+    let scratch = Scratch::new();
+    let name = std::ffi::OsStr::from_bytes(b"b\xffd<&.map");
+    scratch.put(name, &BED);
+    let mut command = scratch.command(env!("CARGO_BIN_EXE_kbmap"));
+    let drawn = answer(command.arg("draw").arg(name).args(["--svg", "-o", "-"]), b"");
+    assert!(drawn.status == 0 && drawn.text().contains("<title>b\u{fffd}d&lt;&amp;.map: a bed of order 2"));
+}
