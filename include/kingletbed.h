@@ -25,8 +25,10 @@
          `sizeof slots` is four times too much. With length 0 the pointer may be anything, NULL too.
        - Storage that a call writes overlaps nothing else that the same call is lent, and meanwhile nobody else uses it.
        - A pointer to a kb_scan points to one that was begun, whose slots are still there.
-     An account is handed over in a byte, which cuts 256 to 0; and a claim for account 0 is a release. Compile with
-     -Wconversion, which tells, or claim by kb_scan_claim, which refuses.
+     C cuts a number that does not fit a parameter, and says nothing: an account goes in a byte, so that 256 arrives as
+     0, and a claim for account 0 is a release; a column of 2^32 arrives as 0 too. Compile with -Wconversion, which
+     tells, or use the kb_scan functions, which take numbers of 64 bits and cut none.
+     This header takes C99 or C++; the library needs nothing besides but memset.
 
    Refusals
      The number of an answer is 0, or says which check was broken first: look at it before the other fields.
@@ -64,15 +66,19 @@ extern "C" {
 #define KB_HIGHEST_ACCOUNT 63
 #define KB_MOST_SLOTS 1048576
 
-/* A byte that is no account; and the byte in which to hand over an account that may not fit one. That goes as
-   KB_NO_ACCOUNT, which the call itself refuses; cut to a byte, 256 would go as 0. */
+/* A byte that is no account; and the numbers in which to hand over ones that may not fit: an account as a byte, any
+   other as a word. What does not fit goes as the largest, which the call itself refuses. */
 #define KB_NO_ACCOUNT 255
 #if KB_NO_ACCOUNT <= KB_HIGHEST_ACCOUNT
 #error "KB_NO_ACCOUNT is an account: kb_account_byte and kb_scan_shown need another way to say that there is none"
 #endif
-KB_MUST_USE static inline uint8_t kb_account_byte(uint32_t account)
+KB_MUST_USE static inline uint8_t kb_account_byte(uint64_t account)
 {
     return account < KB_NO_ACCOUNT ? (uint8_t)account : KB_NO_ACCOUNT;
+}
+KB_MUST_USE static inline uint32_t kb_number_word(uint64_t number)
+{
+    return number < UINT32_MAX ? (uint32_t)number : UINT32_MAX;
 }
 
 /* Kinds of scan. Any other number is taken as KB_MORTON, and the record answered then has 1. */
@@ -206,6 +212,7 @@ KB_MUST_USE kb_part_answer kb_part(uint32_t order, size_t tiles, const uint32_t 
        staff      yes         yes        yes               yes                 no
        students   yes         yes        no                no                  no
        guests     yes         no         no                no                  no
+   An account cut to a byte on its way here, 257 to 1, asks as another: see kb_account_byte.
      refuses   the list checks, KB_POINT_OUTSIDE, KB_ASKER_INVALID
      storage   nothing is written */
 KB_MUST_USE kb_rights_answer kb_rights(uint32_t order, size_t tiles, const uint32_t *slots, size_t slots_length,
@@ -259,8 +266,9 @@ KB_MUST_USE static inline kb_part_tiles_answer kb_part_tiles(uint32_t order, siz
    Begin with `kb_scan scan = {0};` (in C++ `= {};`), an empty bed of order 0 without slots; then kb_scan_fresh or
    kb_scan_read. Each function makes the call of its name on the scan's own numbers and slots, refuses what that call
    refuses and brings the scan up to date; where the rest of an answer goes into the scan, it answers the number alone.
-   Leave the fields and the slots to these functions. A copy of a kb_scan has the same slots: once they change through
-   one of the two, the other is stale and must not be used. */
+   Numbers of 64 bits are taken, and none is cut: one that does not fit is refused as too large. Leave the fields and
+   the slots to these functions. A copy of a kb_scan has the same slots: once they change through one of the two, the
+   other is stale and must not be used. */
 typedef struct kb_scan {
     uint32_t kind, order, pixels;
     size_t tiles;
@@ -269,10 +277,10 @@ typedef struct kb_scan {
 } kb_scan;
 
 /* Refused, the scan is as it was, with the slots that it had. */
-KB_MUST_USE static inline uint32_t kb_scan_fresh(kb_scan *scan, uint32_t kind, uint32_t order,
+KB_MUST_USE static inline uint32_t kb_scan_fresh(kb_scan *scan, uint64_t kind, uint64_t order,
                                                  uint32_t *slots, size_t slots_length)
 {
-    kb_fresh_answer fresh = kb_fresh(kind, order, slots, slots_length);
+    kb_fresh_answer fresh = kb_fresh(kb_number_word(kind), kb_number_word(order), slots, slots_length);
     if (fresh.number == KB_ACCEPTED) {
         kb_scan begun = {fresh.kind, fresh.order, fresh.pixels, fresh.tiles, slots, slots_length};
         *scan = begun;
@@ -305,10 +313,10 @@ KB_MUST_USE static inline kb_feed_answer kb_scan_feed(kb_scan *scan, const uint8
 }
 
 /* Every account above 63 is KB_ACCOUNT_TOO_LARGE, 256 too. */
-KB_MUST_USE static inline uint32_t kb_scan_claim(kb_scan *scan, uint32_t corner, uint32_t size, uint32_t account)
+KB_MUST_USE static inline uint32_t kb_scan_claim(kb_scan *scan, uint64_t corner, uint64_t size, uint64_t account)
 {
     kb_claim_answer claimed = kb_claim(scan->order, scan->tiles, scan->slots, scan->slots_length,
-                                       corner, size, kb_account_byte(account));
+                                       kb_number_word(corner), kb_number_word(size), kb_account_byte(account));
     if (claimed.number == KB_ACCEPTED)
         scan->tiles = claimed.tiles;
     return claimed.number;
@@ -324,22 +332,25 @@ KB_MUST_USE static inline uint32_t kb_scan_decode(const kb_scan *scan, uint8_t *
     return kb_decode(scan->order, scan->tiles, scan->slots, scan->slots_length, raster, raster_length);
 }
 
-KB_MUST_USE static inline kb_lookup_answer kb_scan_lookup(const kb_scan *scan, uint32_t column, uint32_t row)
+KB_MUST_USE static inline kb_lookup_answer kb_scan_lookup(const kb_scan *scan, uint64_t column, uint64_t row)
 {
-    return kb_lookup(scan->order, scan->tiles, scan->slots, scan->slots_length, column, row);
+    return kb_lookup(scan->order, scan->tiles, scan->slots, scan->slots_length,
+                     kb_number_word(column), kb_number_word(row));
 }
 
 /* Every account above 63 is KB_ASKER_INVALID, 257 too. */
-KB_MUST_USE static inline kb_rights_answer kb_scan_rights(const kb_scan *scan, uint32_t column, uint32_t row,
-                                                          uint32_t account)
+KB_MUST_USE static inline kb_rights_answer kb_scan_rights(const kb_scan *scan, uint64_t column, uint64_t row,
+                                                          uint64_t account)
 {
-    return kb_rights(scan->order, scan->tiles, scan->slots, scan->slots_length, column, row, kb_account_byte(account));
+    return kb_rights(scan->order, scan->tiles, scan->slots, scan->slots_length,
+                     kb_number_word(column), kb_number_word(row), kb_account_byte(account));
 }
 
 /* A pointer into the scan's slots, good until the scan changes. An empty part may be held ground: see kb_part. */
-KB_MUST_USE static inline kb_part_tiles_answer kb_scan_part(const kb_scan *scan, uint32_t corner, uint32_t size)
+KB_MUST_USE static inline kb_part_tiles_answer kb_scan_part(const kb_scan *scan, uint64_t corner, uint64_t size)
 {
-    return kb_part_tiles(scan->order, scan->tiles, scan->slots, scan->slots_length, corner, size);
+    return kb_part_tiles(scan->order, scan->tiles, scan->slots, scan->slots_length,
+                         kb_number_word(corner), kb_number_word(size));
 }
 
 /* What a panel draws of a block. `account` is that of all its pixels, 0 for nobody's, also under a larger tile; if they
@@ -348,14 +359,14 @@ KB_MUST_USE static inline kb_part_tiles_answer kb_scan_part(const kb_scan *scan,
      refuses   the list checks, KB_BLOCK_INVALID */
 typedef struct { uint32_t number; const uint32_t *tiles; size_t length; uint8_t account; } kb_shown_answer;
 
-KB_MUST_USE static inline kb_shown_answer kb_scan_shown(const kb_scan *scan, uint32_t corner, uint32_t size)
+KB_MUST_USE static inline kb_shown_answer kb_scan_shown(const kb_scan *scan, uint64_t corner, uint64_t size)
 {
     kb_part_tiles_answer part = kb_scan_part(scan, corner, size);
     kb_shown_answer shown = {part.number, part.tiles, part.length, KB_NO_ACCOUNT};
     if (part.number != KB_ACCEPTED)
         return shown;
     if (part.length == 0) {
-        kb_point_answer at = kb_point(scan->order, corner);
+        kb_point_answer at = kb_point(scan->order, kb_number_word(corner));
         kb_lookup_answer found = kb_scan_lookup(scan, at.column, at.row);
         shown.number = at.number != KB_ACCEPTED ? at.number : found.number;
         shown.account = shown.number == KB_ACCEPTED ? found.account : KB_NO_ACCOUNT;

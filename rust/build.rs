@@ -1,5 +1,5 @@
 //! Links the static library. It is looked for in the repository's target/staticlib, or in the directory that
-//! KINGLETBED_LIB_DIR names.
+//! KINGLETBED_LIB_DIR names by an absolute path.
 
 use std::path::PathBuf;
 

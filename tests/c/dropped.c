@@ -6,6 +6,7 @@ void drop(kb_scan *scan, uint32_t *slots, uint8_t *bytes);
 void drop(kb_scan *scan, uint32_t *slots, uint8_t *bytes)
 {
     kb_account_byte(0);
+    kb_number_word(0);
     kb_extent(0);
     kb_morton(0, 0, 0);
     kb_block(0, 0, 0, 0);

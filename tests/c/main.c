@@ -21,6 +21,7 @@ int main(void)
     test_feed();
     test_claim();
     test_accounts();
+    test_wide();
     test_file();
     test_shown();
     test_many_claims();

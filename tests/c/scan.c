@@ -90,7 +90,8 @@ void test_claim(void)
 /* Accounts that a byte would cut are refused. */
 void test_accounts(void)
 {
-    static const uint32_t strange[] = {64, 254, 255, 256, 257, 256 + 9, 512, 65536, 65536 + 9, UINT32_MAX};
+    static const uint64_t strange[] = {64, 254, 255, 256, 257, 256 + 9, 512, 65536, 65536 + 9, UINT32_MAX,
+                                       (uint64_t)1 << 32, ((uint64_t)1 << 32) + 9, UINT64_MAX};
     uint32_t slots[8], kept[8];
     kb_scan scan = NO_SCAN;
     scan_bed_m(&scan, slots, 8);
@@ -106,6 +107,32 @@ void test_accounts(void)
     CHECK(kb_scan_rights(&scan, 0, 0, 5).yes == 1 && kb_scan_rights(&scan, 0, 0, 9).yes == 0);
     CHECK(kb_scan_rights(&scan, 3, 1, 12).yes == 0 && kb_scan_rights(&scan, 1, 3, 12).yes == 1);
     CHECK(kb_scan_rights(&scan, 4, 0, 5).number == KB_POINT_OUTSIDE);
+}
+
+/* No number is cut to 32 bits on its way: 2^32 is not 0, and 2^32 + 1 not 1. */
+void test_wide(void)
+{
+    static const uint64_t wide[] = {UINT32_MAX, (uint64_t)1 << 32, ((uint64_t)1 << 32) + 1, UINT64_MAX};
+    uint32_t slots[8], others[3];
+    kb_scan scan = NO_SCAN;
+    scan_bed_m(&scan, slots, 8);
+    kb_scan before = scan;
+    for (size_t i = 0; i < sizeof wide / sizeof *wide; i++) {
+        CHECK(kb_number_word(wide[i]) == UINT32_MAX);
+        CHECK(kb_scan_fresh(&scan, KB_ROWS, wide[i], others, 3) == KB_ORDER_TOO_LARGE);
+        CHECK(kb_scan_lookup(&scan, wide[i], 0).number == KB_POINT_OUTSIDE);
+        CHECK(kb_scan_lookup(&scan, 0, wide[i]).number == KB_POINT_OUTSIDE);
+        CHECK(kb_scan_rights(&scan, wide[i], 0, 5).number == KB_POINT_OUTSIDE);
+        CHECK(kb_scan_rights(&scan, 0, wide[i], 5).number == KB_POINT_OUTSIDE);
+        CHECK(kb_scan_claim(&scan, wide[i], 0, 5) == KB_BLOCK_INVALID);
+        CHECK(kb_scan_claim(&scan, 0, wide[i], 5) == KB_BLOCK_INVALID);
+        CHECK(kb_scan_part(&scan, wide[i], 0).number == KB_BLOCK_INVALID);
+        CHECK(kb_scan_part(&scan, 0, wide[i]).number == KB_BLOCK_INVALID);
+        CHECK(kb_scan_shown(&scan, wide[i], 0).number == KB_BLOCK_INVALID);
+        CHECK(kb_scan_shown(&scan, 0, wide[i]).number == KB_BLOCK_INVALID);
+    }
+    CHECK(same(&scan, &before) && kb_scan_check(&scan) == KB_ACCEPTED);
+    CHECK(kb_scan_fresh(&scan, (uint64_t)1 << 32, 1, others, 3) == KB_ACCEPTED && scan.kind == KB_MORTON);
 }
 
 void test_file(void)

@@ -23,6 +23,7 @@ void test_fresh(void);
 void test_feed(void);
 void test_claim(void);
 void test_accounts(void);
+void test_wide(void);
 void test_file(void);
 void test_shown(void);
 void test_many_claims(void);
