@@ -1,6 +1,7 @@
 //! The colours of accounts: ten fills that stay apart for readers with full colour vision and for red-blind,
 //! green-blind and blue-blind ones, and labels that can be read on them. The tests measure both.
 
+use std::cmp::Reverse;
 use std::fmt;
 
 /// A colour by its parts in sRGB. It prints as #rrggbb.
@@ -87,11 +88,14 @@ pub const PALETTE: [Colour; 10] = [
 const ACCOUNTS: usize = 256;
 
 /// The fills of a bed's accounts. Each account has a fill of its own, by its number, and so the same one on most beds.
-/// If another account of the bed has that fill already, it takes the next one that none has. Where there are more
-/// accounts than fills it shares one, but with none that it touches; and if it touches them all, with those that it
-/// touches least.
+/// Of up to ten accounts no two have the same: if another has that fill already, an account takes the next one that
+/// none has. More accounts share fills, but not those that touch, as far as that goes: those that touch most others
+/// choose first, and each takes its own fill or the next one that none has that it touches; if there is none, the fill
+/// of those that it touches least.
 pub struct Fills {
     of: [usize; ACCOUNTS],
+    /// Whether two accounts that touch have the same fill.
+    pub touching: bool,
 }
 
 impl Fills {
@@ -100,16 +104,25 @@ impl Fills {
         let borders = Borders::of_raster(side, raster);
         let mut on_bed = [false; ACCOUNTS];
         raster.iter().for_each(|&account| on_bed[usize::from(account)] = true);
-        let mut of = [0; ACCOUNTS];
-        for account in 1..ACCOUNTS {
-            let shared = |fill: usize| {
-                let others = (1..account).filter(|&other| on_bed[other] && of[other] == fill);
-                others.fold((0, 0), |(touched, some), other| (touched + borders.between(account, other), some + 1))
+        let mut accounts: Vec<usize> = (1..ACCOUNTS).filter(|&account| on_bed[account]).collect();
+        let few = accounts.len() <= PALETTE.len();
+        if !few {
+            accounts.sort_by_key(|&account| (Reverse(borders.touched(account)), account));
+        }
+        let mut of = std::array::from_fn(|account| account % PALETTE.len());
+        let mut touching = false;
+        for (at, &account) in accounts.iter().enumerate() {
+            let against = |fill: usize| -> u32 {
+                let others = accounts[..at].iter().filter(|&&other| of[other] == fill);
+                others.map(|&other| if few { 1 } else { borders.between(account, other) }).sum()
             };
             let fills = (0..PALETTE.len()).map(|step| (account + step) % PALETTE.len());
-            of[account] = fills.min_by_key(|&fill| shared(fill)).unwrap_or(0);
+            let (least, fill) =
+                fills.map(|fill| (against(fill), fill)).min_by_key(|&(least, _)| least).unwrap_or((0, 0));
+            touching |= least > 0;
+            of[account] = fill;
         }
-        Fills { of }
+        Fills { of, touching }
     }
 
     pub fn fill(&self, account: u8) -> Colour {
@@ -146,9 +159,13 @@ impl Borders {
         }
     }
 
-    /// `higher` is the larger number.
-    fn between(&self, higher: usize, lower: usize) -> u32 {
-        self.counts[higher * ACCOUNTS + lower]
+    fn between(&self, one: usize, two: usize) -> u32 {
+        self.counts[one.max(two) * ACCOUNTS + one.min(two)]
+    }
+
+    /// How many others an account touches.
+    fn touched(&self, account: usize) -> usize {
+        (1..ACCOUNTS).filter(|&other| self.between(account, other) > 0).count()
     }
 }
 

@@ -13,7 +13,24 @@ pub use draw::draw;
 pub use raster::{decode, scan};
 
 use crate::failure::{note, Failure};
+use crate::input::Source;
+use crate::lock::same_file;
 use crate::output::{print, Target};
+use std::path::Path;
+
+/// What is made of a file must not take its place.
+fn apart(file: &Source, out: &Target) -> Result<(), Failure> {
+    let path = match file {
+        Source::Standard => Path::new("/dev/stdin"),
+        Source::File(path) => path,
+    };
+    match out {
+        Target::File(to) if to.is_file() && same_file(path, to) => {
+            Err(Failure::usage(format!("{} is the input itself: name another file behind -o", out.name())))
+        }
+        _ => Ok(()),
+    }
+}
 
 /// Tells what was done: on standard output, or on standard error if the result went there.
 fn tell(out: &Target, line: &str) -> Result<(), Failure> {

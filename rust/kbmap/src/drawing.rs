@@ -1,6 +1,6 @@
 //! What all drawings of a bed show: its tiles, and an entry of the legend for each account and for nobody's ground.
 
-use crate::colour::{Colour, Fills};
+use crate::colour::{Colour, Fills, PALETTE};
 use crate::failure::Failure;
 use crate::map::{Holding, Map};
 use crate::words::{count, span};
@@ -16,6 +16,8 @@ pub struct Drawing {
     pub entries: Vec<Entry>,
     /// Nobody's pixels.
     pub free: u32,
+    /// What is to be known of the colours.
+    pub notes: Vec<String>,
 }
 
 /// An account of the legend.
@@ -42,7 +44,8 @@ impl Drawing {
         let held: u32 = entries.iter().map(|entry| entry.holding.pixels).sum();
         let free = map.bed.pixels() - held;
         let squares = squares(&map, &entries)?;
-        Ok(Drawing { map, raster, squares, entries, free })
+        let notes = notes(&entries, fills.touching);
+        Ok(Drawing { map, raster, squares, entries, free, notes })
     }
 
     /// The name over the drawing.
@@ -70,6 +73,19 @@ impl Drawing {
         let sides = (0..=self.map.bed.order()).map(|size| raw::extent(size).side);
         sides.into_iter().find(|side| self.side() / side <= most).unwrap_or(self.side())
     }
+}
+
+/// "11 accounts share 9 colours", and whether some of those touch.
+fn notes(entries: &[Entry], touching: bool) -> Vec<String> {
+    let used = PALETTE.iter().filter(|&&fill| entries.iter().any(|entry| entry.fill == fill)).count();
+    let mut notes = Vec::new();
+    if used < entries.len() {
+        notes.push(format!("{} accounts share {}", entries.len(), count(used, "colour")));
+    }
+    if touching {
+        notes.push("some accounts that touch share a colour".to_owned());
+    }
+    notes
 }
 
 /// Which entry is that of an account.
@@ -108,8 +124,9 @@ pub fn escaped(text: &str) -> String {
             '<' => escaped.push_str("&lt;"),
             '>' => escaped.push_str("&gt;"),
             '"' => escaped.push_str("&quot;"),
-            // A letter that no picture may have stands in a file's name now and then.
-            _ if letter.is_control() => escaped.push('\u{fffd}'),
+            // A letter that no picture may have stands in a file's name now and then: controls, and what is no letter.
+            _ if letter.is_control() || matches!(u32::from(letter), 0xfdd0..=0xfdef) => escaped.push('\u{fffd}'),
+            _ if u32::from(letter) & 0xfffe == 0xfffe => escaped.push('\u{fffd}'),
             _ => escaped.push(letter),
         }
     }

@@ -1,5 +1,6 @@
 //! How a command fails: the exit status, and what is said on standard error.
 
+use crate::words::visible;
 use kingletbed::Refusal;
 use std::fmt::Display;
 use std::io::{self, Write};
@@ -19,6 +20,7 @@ pub struct Failure {
 impl Failure {
     /// The command line cannot be understood.
     pub fn usage(message: impl Display) -> Failure {
+        let message = visible(&message.to_string());
         Failure { status: TROUBLE, message: Some(format!("{message}; see kbmap --help")) }
     }
 

@@ -1,6 +1,8 @@
 //! What a command reads: a file, or standard input.
 
 use crate::failure::Failure;
+use crate::lock::Locked;
+use crate::words::visible;
 use std::ffi::OsString;
 use std::fs::File;
 use std::io::{self, Read};
@@ -30,7 +32,7 @@ impl Source {
     pub fn name(&self) -> String {
         match self {
             Source::Standard => "standard input".to_owned(),
-            Source::File(path) => path.display().to_string(),
+            Source::File(path) => visible(&path.to_string_lossy()),
         }
     }
 
@@ -44,10 +46,18 @@ impl Source {
 
     /// All its bytes.
     pub fn read(&self) -> Result<Vec<u8>, Failure> {
-        let bytes = match self {
+        self.checked(match self {
             Source::Standard => read_most(io::stdin().lock()),
             Source::File(path) => File::open(path).and_then(read_most),
-        };
+        })
+    }
+
+    /// The same of the file that is locked for a change.
+    pub fn read_locked(&self, locked: &Locked) -> Result<Vec<u8>, Failure> {
+        self.checked(read_most(locked.file()))
+    }
+
+    fn checked(&self, bytes: io::Result<Vec<u8>>) -> Result<Vec<u8>, Failure> {
         let bytes = bytes.map_err(|error| Failure::trouble(self.name(), &error))?;
         if bytes.len() as u64 > MOST {
             let reason = format!("longer than {} MB: no map file and no picture of a bed is", MOST >> 20);

@@ -11,6 +11,7 @@ mod failure;
 mod input;
 mod layout;
 mod locate;
+mod lock;
 mod map;
 mod output;
 mod page;

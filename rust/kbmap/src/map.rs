@@ -45,6 +45,11 @@ impl Map {
     /// Reads a file; one that is no map is refused with what is wrong and where.
     pub fn open(source: Source) -> Result<Map, Failure> {
         let bytes = source.read()?;
+        Map::of(source, bytes)
+    }
+
+    /// The map of a file's bytes.
+    pub fn of(source: Source, bytes: Vec<u8>) -> Result<Map, Failure> {
         match read(&bytes) {
             Ok(bed) => Ok(Map { source, bytes, bed }),
             Err(refusal) => Err(Failure::refusal(source.name(), refusal, &locate(&bytes, refusal))),

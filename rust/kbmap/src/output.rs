@@ -1,7 +1,10 @@
 //! Where a result goes. A file is written beside the old one and then renamed, so that there is never half a file: a
-//! write that fails leaves what was there before, and nothing besides. A device or a pipe is written directly.
+//! write that fails leaves what was there before, and nothing besides. A device or a pipe is written directly. A file
+//! that is replaced is locked meanwhile.
 
 use crate::failure::Failure;
+use crate::lock::Locked;
+use crate::words::visible;
 use std::ffi::OsString;
 use std::fs::{self, File, Metadata, OpenOptions};
 use std::io::{self, BufWriter, IsTerminal, Write};
@@ -35,7 +38,7 @@ impl Target {
     pub fn name(&self) -> String {
         match self {
             Target::Standard => "standard output".to_owned(),
-            Target::File(path) => path.display().to_string(),
+            Target::File(path) => visible(&path.to_string_lossy()),
         }
     }
 
@@ -70,12 +73,7 @@ fn write_through(out: impl Write, writing: &Writing) -> io::Result<()> {
 
 fn write_file(path: &Path, writing: &Writing) -> io::Result<()> {
     match fs::metadata(path) {
-        Ok(found) if found.is_file() => {
-            // The file that a symbolic link leads to is the one to replace; one that is write-protected stays.
-            let real = fs::canonicalize(path)?;
-            OpenOptions::new().write(true).open(&real)?;
-            replace(&real, Some(&found), writing)
-        }
+        Ok(found) if found.is_file() => Locked::open(path, OpenOptions::new().write(true))?.replace(writing),
         Ok(_) => write_through(OpenOptions::new().write(true).open(path)?, writing),
         Err(error) if error.kind() != io::ErrorKind::NotFound => Err(error),
         Err(_) if path.is_symlink() => Err(io::Error::other("the symbolic link leads nowhere")),
@@ -83,14 +81,16 @@ fn write_file(path: &Path, writing: &Writing) -> io::Result<()> {
     }
 }
 
-fn replace(path: &Path, found: Option<&Metadata>, writing: &Writing) -> io::Result<()> {
+/// Writes a new file and renames it to this path, where one was found or none.
+pub fn replace(path: &Path, found: Option<&Metadata>, writing: &Writing) -> io::Result<()> {
+    found.map_or(Ok(()), one_name)?;
     let directory = match path.parent() {
         Some(parent) if !parent.as_os_str().is_empty() => parent,
         _ => Path::new("."),
     };
     let beside = Beside::create(directory)?;
     if let Some(found) = found {
-        keep_owner(&beside.file, found);
+        keep_owner(&beside.file, found)?;
         beside.file.set_permissions(found.permissions())?;
     }
     write_through(&beside.file, writing)?;
@@ -101,15 +101,41 @@ fn replace(path: &Path, found: Option<&Metadata>, writing: &Writing) -> io::Resu
     Ok(())
 }
 
-/// Whoever may write the directory may replace a file in it; where the system allows, it stays its owner's.
+/// A file with several names is not replaced: the others would keep the old one.
 #[cfg(unix)]
-fn keep_owner(file: &File, found: &Metadata) {
+fn one_name(found: &Metadata) -> io::Result<()> {
+    use std::os::unix::fs::MetadataExt;
+    match found.nlink() {
+        0 | 1 => Ok(()),
+        names => Err(io::Error::other(format!(
+            "the file has {names} names (hard links), and the others would keep what it was: name another behind -o"
+        ))),
+    }
+}
+
+/// Whoever may write the directory may replace a file in it. It stays its owner's where the system allows; it must
+/// stay its group's, or those who share it were locked out.
+#[cfg(unix)]
+fn keep_owner(file: &File, found: &Metadata) -> io::Result<()> {
     use std::os::unix::fs::{fchown, MetadataExt};
-    let _ = fchown(file, Some(found.uid()), Some(found.gid()));
+    let group = Some(found.gid());
+    let kept = fchown(file, Some(found.uid()), group).or_else(|_| fchown(file, None, group));
+    if kept.is_err() && file.metadata()?.gid() != found.gid() {
+        let reason = "the new file cannot be given to the old one's group, number";
+        return Err(io::Error::other(format!("{reason} {}: name another behind -o", found.gid())));
+    }
+    Ok(())
 }
 
 #[cfg(not(unix))]
-fn keep_owner(_: &File, _: &Metadata) {}
+fn one_name(_: &Metadata) -> io::Result<()> {
+    Ok(())
+}
+
+#[cfg(not(unix))]
+fn keep_owner(_: &File, _: &Metadata) -> io::Result<()> {
+    Ok(())
+}
 
 /// A new file that is gone again unless it is renamed.
 struct Beside {

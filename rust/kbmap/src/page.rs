@@ -17,6 +17,7 @@ pub fn write(out: &mut dyn Write, drawing: &Drawing) -> io::Result<()> {
         match gap {
             "title" => out.write_all(escaped(&drawing.title()).as_bytes())?,
             "summary" => out.write_all(drawing.summary().as_bytes())?,
+            "notes" => drawing.notes.iter().try_for_each(|note| write!(out, "<br>{note}"))?,
             "legend" => legend(out, drawing)?,
             "data" => data(out, drawing)?,
             _ => return Err(io::Error::other(format!("the page has no {gap}"))),

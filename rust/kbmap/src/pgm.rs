@@ -23,6 +23,9 @@ pub fn read(bytes: &[u8]) -> Result<Picture, String> {
         Some(b"P2") => true,
         _ => return Err("no PGM picture: it begins neither with P5 nor with P2".to_owned()),
     };
+    if bytes.get(2).is_some_and(|byte| !byte.is_ascii_whitespace() && *byte != b'#') {
+        return Err("no PGM picture: no blank follows the P5 or P2 that it begins with".to_owned());
+    }
     let mut items = Items { bytes, at: 2 };
     let (width, height) = (items.header("width")?, items.header("height")?);
     let maxval = items.header("maxval")?;
@@ -185,6 +188,9 @@ mod tests {
     fn bad_headers() {
         assert!(wrong(b"").contains("P5"));
         assert!(wrong(b"P6 2 2 255\n").contains("P5"));
+        for magic in ["P22 2 63 1 2 3 4", "P55 2 2 63\n0000", "P2\0 2 2 63 1 2 3 4", "P2x"] {
+            assert!(wrong(magic.as_bytes()).contains("no blank follows"), "{magic}");
+        }
         assert_eq!(wrong(b"P5"), "the header has no good width at byte 2");
         assert_eq!(wrong(b"P5 2"), "the header has no good height at byte 4");
         assert_eq!(wrong(b"P5 2 x"), "the header has no good height at byte 5");

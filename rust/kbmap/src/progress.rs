@@ -28,7 +28,7 @@ impl Progress {
     /// One more step is done.
     pub fn step(&mut self) {
         self.done += 1;
-        if self.done % STRIDE == 0 {
+        if self.done.is_multiple_of(STRIDE) {
             self.look();
         }
     }

@@ -6,8 +6,10 @@ use crate::progress::Progress;
 use crate::words::{count, share};
 use std::io::{self, Write};
 
-/// The bed's side in units of the picture, whatever its order, and where the bed begins.
+/// The bed's side in units of the picture, and that of a bed whose pixels would be less than `SHARP` units: theirs are
+/// whole units, so that none is left out. Where the bed begins.
 const BED: f64 = 640.0;
+const LARGE: f64 = 1024.0;
 const LEFT: f64 = 64.0;
 const TOP: f64 = 112.0;
 /// The legend: what is between it and the bed, its rows and its columns.
@@ -20,14 +22,17 @@ const TICKS: u32 = 16;
 /// A tile whose side is less has no label; one whose side is less than the other has no outline either.
 const LABELLED: f64 = 15.0;
 const OUTLINED: f64 = 4.0;
+/// Edges are sharp where pixels have more units. Sharp edges would leave a pixel out where a picture is scaled to less
+/// than a dot for it, and held ground would look free; soft ones show it faintly.
+const SHARP: f64 = 2.0;
 
 const INK: Colour = DARK;
 
 /// Writes the picture.
 pub fn write(out: &mut dyn Write, drawing: &Drawing) -> io::Result<()> {
-    let columns = (drawing.entries.len() + 1).div_ceil(ROWS);
-    let width = LEFT + BED + GAP + COLUMN * columns as f64;
-    let height = TOP + BED + 40.0;
+    let columns = (drawing.entries.len() + 1 + drawing.notes.len()).div_ceil(ROWS);
+    let width = LEFT + bed(drawing) + GAP + COLUMN * columns as f64;
+    let height = TOP + bed(drawing) + 40.0;
     write!(out, r#"<svg xmlns="http://www.w3.org/2000/svg" viewBox="0 0 {width} {height}" width="{width}" "#)?;
     write!(out, r#"height="{height}" role="img" font-family="Helvetica, Arial, sans-serif" font-size="13" "#)?;
     writeln!(out, r#"fill="{INK}">"#)?;
@@ -57,17 +62,28 @@ fn short(number: f64) -> String {
     text.trim_end_matches('0').trim_end_matches('.').to_owned()
 }
 
+/// Units for the bed's side: at least one for each column.
+fn bed(drawing: &Drawing) -> f64 {
+    let side = f64::from(drawing.side());
+    if BED >= SHARP * side {
+        BED
+    } else {
+        side.max(LARGE)
+    }
+}
+
 /// Units for each pixel.
 fn unit(drawing: &Drawing) -> f64 {
-    BED / f64::from(drawing.side())
+    bed(drawing) / f64::from(drawing.side())
 }
 
 fn ground(out: &mut dyn Write, drawing: &Drawing) -> io::Result<()> {
     let free = escaped(&share(drawing.free, drawing.map.bed.pixels()));
     let title = format!("nobody's; {} in all, {free}", count(drawing.free as usize, "pixel"));
+    let bed = bed(drawing);
     writeln!(
         out,
-        r#"<rect x="{LEFT}" y="{TOP}" width="{BED}" height="{BED}" fill="url(#free)"><title>{title}</title></rect>"#
+        r#"<rect x="{LEFT}" y="{TOP}" width="{bed}" height="{bed}" fill="url(#free)"><title>{title}</title></rect>"#
     )
 }
 
@@ -86,7 +102,8 @@ fn axes(out: &mut dyn Write, drawing: &Drawing) -> io::Result<()> {
         writeln!(out, r#"<text x="{}" y="{y}" dy=".35em" text-anchor="end">{number}</text>"#, LEFT - 11.0)?;
     }
     // The frame is drawn last, so that no tile lies on it.
-    ticks.push_str(&format!("M{LEFT} {TOP}h{BED}v{BED}h-{BED}z"));
+    let bed = bed(drawing);
+    ticks.push_str(&format!("M{LEFT} {TOP}h{bed}v{bed}h-{bed}z"));
     writeln!(out, "</g>")?;
     writeln!(out, r#"<path fill="none" stroke="{FRAME}" pointer-events="none" d="{ticks}"/>"#)
 }
@@ -99,7 +116,8 @@ fn tiles(out: &mut dyn Write, drawing: &Drawing) -> io::Result<()> {
     }
     let unit = unit(drawing);
     let (scale, line) = (short(unit), short(1.0 / unit));
-    write!(out, r#"<g transform="translate({LEFT} {TOP}) scale({scale})" shape-rendering="crispEdges" "#)?;
+    let edges = if unit > SHARP { r#" shape-rendering="crispEdges""# } else { "" };
+    write!(out, r#"<g transform="translate({LEFT} {TOP}) scale({scale})"{edges} "#)?;
     writeln!(out, r#"stroke-width="{line}" stroke-opacity=".6">"#)?;
     let mut progress = Progress::new("drawing", drawing.map.bed.words().len());
     for (entry, squares) in drawing.entries.iter().zip(&groups) {
@@ -175,7 +193,7 @@ fn legend(out: &mut dyn Write, drawing: &Drawing) -> io::Result<()> {
     let (count, pixels) = (drawing.entries.len(), drawing.map.bed.pixels());
     let at = |entry: usize| {
         let (column, row) = (entry / ROWS, entry % ROWS);
-        (LEFT + BED + GAP + COLUMN * column as f64, TOP + 12.0 + ROW * row as f64)
+        (LEFT + bed(drawing) + GAP + COLUMN * column as f64, TOP + 12.0 + ROW * row as f64)
     };
     for column in 0..=count / ROWS {
         let (x, y) = (at(column * ROWS).0, TOP - 11.0);
@@ -200,7 +218,12 @@ fn legend(out: &mut dyn Write, drawing: &Drawing) -> io::Result<()> {
     }
     let (x, y) = at(count);
     swatch(out, x, y, "url(#free)")?;
-    entry_text(out, x, y, "nobody's", &[String::new(), drawing.free.to_string(), share(drawing.free, pixels)])
+    entry_text(out, x, y, "nobody's", &[String::new(), drawing.free.to_string(), share(drawing.free, pixels)])?;
+    for (number, note) in drawing.notes.iter().enumerate() {
+        let (x, y) = at(count + 1 + number);
+        writeln!(out, r#"<text x="{x}" y="{y}" dy=".35em" fill="{MUTED}">{note}</text>"#)?;
+    }
+    Ok(())
 }
 
 fn swatch(out: &mut dyn Write, x: f64, y: f64, fill: &str) -> io::Result<()> {

@@ -4,15 +4,17 @@
 
 use crate::colour::{Colour, MIXED, MUTED, WHITE};
 use crate::drawing::Drawing;
-use crate::words::share;
+use crate::words::{share, square, visible};
 use kingletbed::{raw, Account};
 use std::io::{self, Write};
 
 /// Letters of a cell with a number: those of the number and a blank, or the number alone where colours part the cells.
 const WIDE: usize = 3;
 const NARROW: usize = 2;
-/// Letters of an entry of the legend.
+/// Letters of an entry of the legend; in a narrower drawing an entry is short.
 const ENTRY: usize = 36;
+/// The columns that a drawing takes at least: those of a short entry.
+pub const NARROWEST: usize = 20;
 
 /// The letters that a number takes.
 fn digits(number: u32) -> usize {
@@ -78,9 +80,10 @@ fn cells(drawing: &Drawing, block: u32) -> Vec<Vec<Cell>> {
 /// Writes the drawing.
 pub fn write(out: &mut dyn Write, drawing: &Drawing, colour: bool, width: usize) -> io::Result<()> {
     let form = Form::of(drawing, colour, width);
-    writeln!(out, "{}: {}", drawing.title(), drawing.summary())?;
+    wrapped(out, &format!("{}: {}", visible(&drawing.title()), drawing.summary()), width)?;
     if form.block > 1 {
-        writeln!(out, "a cell is a block of {0} by {0} pixels, mixed if they are not all one account's", form.block)?;
+        let block = square(form.block);
+        wrapped(out, &format!("a cell is a block of {block}, mixed if they are not all one account's"), width)?;
     }
     writeln!(out)?;
     let (margin, step) = (digits(drawing.side()), form.step(drawing));
@@ -90,7 +93,7 @@ pub fn write(out: &mut dyn Write, drawing: &Drawing, colour: bool, width: usize)
     let mut above = Vec::new();
     for (line, rows) in cells.chunks(high).enumerate() {
         let row = (line * high) as u32 * form.block;
-        let number = if row % step == 0 { row.to_string() } else { String::new() };
+        let number = if row.is_multiple_of(step) { row.to_string() } else { String::new() };
         write!(out, "{number:>margin$} ")?;
         match rows {
             [upper, lower] => {
@@ -103,7 +106,29 @@ pub fn write(out: &mut dyn Write, drawing: &Drawing, colour: bool, width: usize)
         }
     }
     let mixed = cells.iter().flatten().any(|&cell| cell == Cell::Mixed);
-    pen.legend(out, mixed, width)
+    pen.legend(out, mixed, width)?;
+    // Without colours each cell has its number.
+    let notes = drawing.notes.iter().filter(|_| colour);
+    notes.into_iter().try_for_each(|note| wrapped(out, note, width))
+}
+
+/// Writes a text in lines of so many letters at most; a word that is longer is parted.
+fn wrapped(out: &mut dyn Write, text: &str, width: usize) -> io::Result<()> {
+    let width = width.max(NARROWEST);
+    let mut line: Vec<char> = Vec::new();
+    for word in text.split(' ') {
+        let word: Vec<char> = word.chars().collect();
+        if !line.is_empty() && line.len() + 1 + word.len() > width {
+            writeln!(out, "{}", line.drain(..).collect::<String>())?;
+        } else if !line.is_empty() {
+            line.push(' ');
+        }
+        line.extend(word);
+        while line.len() > width {
+            writeln!(out, "{}", line.drain(..width).collect::<String>())?;
+        }
+    }
+    writeln!(out, "{}", line.into_iter().collect::<String>())
 }
 
 /// The numbers of columns. Each stands over the last letter of its cell, as the numbers in cells do.
@@ -207,6 +232,9 @@ impl Pen<'_> {
     fn legend(&self, out: &mut dyn Write, mixed: bool, width: usize) -> io::Result<()> {
         let pixels = self.drawing.map.bed.pixels();
         let entry = |held: u32| {
+            if width < ENTRY {
+                return format!("{held:>8}");
+            }
             let noun = if held == 1 { "pixel" } else { "pixels" };
             format!("{held:>8} {noun:<6} {:>7}", share(held, pixels))
         };
@@ -222,6 +250,9 @@ impl Pen<'_> {
         let columns = (width / ENTRY).clamp(1, entries.len());
         let rows = entries.len().div_ceil(columns);
         writeln!(out)?;
+        if width < ENTRY {
+            writeln!(out, "{:>1$}", "pixels", NARROWEST - usize::from(self.colour))?;
+        }
         for row in 0..rows {
             for (column, (cell, text)) in entries.iter().skip(row).step_by(rows).enumerate() {
                 let gap = if column == 0 { "" } else { "    " };

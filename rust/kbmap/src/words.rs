@@ -15,6 +15,21 @@ pub fn class(account: Account) -> &'static str {
     }
 }
 
+/// Text from outside for messages: what would steer a terminal, or turn the order of its letters, is spelled.
+pub fn visible(text: &str) -> String {
+    let mut seen = String::with_capacity(text.len());
+    for letter in text.chars() {
+        match letter {
+            _ if letter.is_control() => seen.push_str(&format!("\\x{:02x}", u32::from(letter))),
+            '\u{200e}' | '\u{200f}' | '\u{2028}'..='\u{202e}' | '\u{2066}'..='\u{2069}' => {
+                seen.extend(letter.escape_unicode());
+            }
+            _ => seen.push(letter),
+        }
+    }
+    seen
+}
+
 /// "1 tile", "2 tiles".
 pub fn count(number: usize, thing: &str) -> String {
     format!("{number} {thing}{}", if number == 1 { "" } else { "s" })
@@ -70,6 +85,11 @@ mod tests {
         assert_eq!(share(16, 16), "100.0 %");
         assert_eq!(share(1, 1 << 20), "<0.1 %");
         assert_eq!(share((1 << 20) - 1, 1 << 20), ">99.9 %");
+    }
+
+    #[test]
+    fn visible_letters() {
+        assert_eq!(visible("bed ü\u{1b}[2J\n\u{9b}\u{202e}.map"), r"bed ü\x1b[2J\x0a\x9b\u{202e}.map");
     }
 
     #[test]

@@ -185,14 +185,26 @@ fn scan_refuses() {
 #[test]
 fn claim_and_release() {
     let scratch = Scratch::with_bed();
-    let claimed = "bed.map: columns 2 to 3, rows 0 to 1: now account 9's, student\n  tiles: 4 before, 4 after\n";
+    let claimed = "bed.map: columns 2 to 3, rows 0 to 1: now account 9's, student\n  \
+                   held before: account 9 (1 pixel), nobody's (3 pixels)\n  tiles: 4 before, 4 after\n";
     assert_eq!(scratch.kbmap("claim bed.map 3,0 1 9"), ok(claimed));
     assert!(scratch.kbmap("at bed.map 2 0").text().starts_with("column 2, row 0: account 9, student\n"));
-    let released = "bed.map: column 0, row 0: now nobody's\n  tiles: 4 before, 6 after\n";
+    let released = "bed.map: column 0, row 0: now nobody's\n  held before: account 5 (1 pixel)\n  \
+                    tiles: 4 before, 6 after\n";
     assert_eq!(scratch.kbmap("release bed.map 0 0"), ok(released));
     let back = scratch.kbmap("claim bed.map 0 0 5");
     assert!(back.text().ends_with("6 before, 4 after\n"));
     assert_eq!(scratch.names(), ["bed.map"]);
+}
+
+#[test]
+fn claims_say_what_was_there() {
+    let scratch = Scratch::with_bed();
+    let said = |line: &str| scratch.fed(line, &BED).err;
+    let whole = "  held before: account 5 (4 pixels), account 9 (6 pixels), nobody's (6 pixels)\n";
+    assert!(said("release - 0 2").contains(whole));
+    assert!(said("claim - 3,3 0 7").contains("  held before: account 9 (1 pixel)\n"));
+    assert!(said("claim - 2,0 0 7").contains("  held before: nobody's (1 pixel)\n"));
 }
 
 #[test]

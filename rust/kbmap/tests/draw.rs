@@ -2,7 +2,7 @@
 
 mod common;
 
-use common::{noise, Scratch, BED};
+use common::{answer, noise, Scratch, BED};
 
 #[test]
 fn picture() {
@@ -119,4 +119,99 @@ fn terminal_width() {
     assert!(drawn.text().lines().skip(3).take(17).all(|line| line.len() <= 80));
     let wide = scratch.kbmap("draw bed.map --width 200");
     assert!(!wide.text().contains("##"));
+}
+
+/// The text without what sets colours.
+fn without_colours(text: &str) -> String {
+    let mut parts = text.split("\x1b[");
+    let first = parts.next().unwrap().to_owned();
+    parts.fold(first, |text, part| text + part.split_once('m').unwrap().1)
+}
+
+/// No line of a drawing is longer than asked, from 20 columns on; less is taken as 20.
+#[test]
+fn narrow_terminals() {
+    let scratch = Scratch::new();
+    for order in [0, 1, 3, 6, 10] {
+        let name = "a-long-name-of-a-bed.map";
+        assert_eq!(scratch.fed(&format!("scan - -o {name}"), &noise(1 << order)).status, 0);
+        for (asked, width) in [(1, 20), (20, 20), (35, 35), (36, 36)] {
+            for colour in ["", "--colour"] {
+                let drawn = scratch.kbmap(&format!("draw {name} --width {asked} {colour}"));
+                assert_eq!(drawn.status, 0);
+                let text = without_colours(drawn.text());
+                let longest = text.lines().map(|line| line.chars().count()).max().unwrap();
+                assert!(longest <= width, "order {order}, {asked} columns: {longest}\n{text}");
+            }
+        }
+    }
+}
+
+/// A bed of order 10 with single pixels of account 7, every 51 columns and rows: 21 by 21 of them.
+fn scattered() -> Vec<u8> {
+    let mut picture = b"P5\n1024 1024\n63\n".to_vec();
+    picture.extend((0..1 << 20).map(|at| if at % 1024 % 51 == 0 && at / 1024 % 51 == 0 { 7 } else { 0 }));
+    picture
+}
+
+/// A pixel of a large bed has a unit of the picture at least, and soft edges, so that none is left out.
+#[test]
+fn small_pixels() {
+    let scratch = Scratch::new();
+    assert_eq!(scratch.fed("scan - -o bed.map", &scattered()).status, 0);
+    let large = scratch.kbmap("draw bed.map --svg -o -");
+    assert_eq!(large.text().matches(r#" width="1" height="1"><title>account 7"#).count(), 441);
+    assert!(large.text().contains(r#"<rect x="64" y="112" width="1024" height="1024" fill="url(#free)">"#));
+    assert!(large.text().contains(" scale(1)") && !large.text().contains("crispEdges"));
+    for (side, scale, crisp) in [(512, 2.0, false), (256, 2.5, true), (64, 10.0, true), (1, 640.0, true)] {
+        assert_eq!(scratch.fed("scan - -o bed.map", &noise(side)).status, 0);
+        let drawn = scratch.kbmap("draw bed.map --svg -o -");
+        assert!(drawn.text().contains(&format!(" scale({scale})")), "{side}");
+        assert_eq!(drawn.text().contains("crispEdges"), crisp, "{side}");
+    }
+}
+
+/// The legends say that colours are shared, and whether by accounts that touch.
+#[test]
+fn shared_colours() {
+    let scratch = Scratch::new();
+    let cases: [(&[u8], bool, bool); 3] = [
+        (b"P2 4 4 63 1 2 3 4 5 6 7 8 9 10 0 0 0 0 0 0", false, false),
+        (b"P2 4 4 63 1 2 3 4 5 6 7 8 9 10 11 0 0 0 0 0", true, false),
+        (&noise(64), true, true),
+    ];
+    for (picture, shared, touching) in cases {
+        assert_eq!(scratch.fed("scan - -o bed.map", picture).status, 0);
+        for style in ["--svg", "--html", "--colour"] {
+            let drawn = scratch.kbmap(&format!("draw bed.map {style} -o -"));
+            assert_eq!(drawn.text().contains(" accounts share 10 colours"), shared, "{style}");
+            assert_eq!(drawn.text().contains("some accounts that touch share a colour"), touching, "{style}");
+        }
+    }
+}
+
+/// A name's letters that XML does not allow, or that would steer a terminal, are not passed on.
+#[cfg(unix)]
+#[test]
+fn wild_names() {
+    let scratch = Scratch::new();
+    let name = "b\u{ffff}\u{1b}[2J\n.map";
+    scratch.put(name, &BED);
+    let called = |words: &[&str]| answer(scratch.command(env!("CARGO_BIN_EXE_kbmap")).args(words), b"");
+    for style in ["--svg", "--html"] {
+        let drawn = called(&["draw", name, style, "-o", "-"]);
+        assert!(drawn.text().contains("<title>b\u{fffd}\u{fffd}[2J\u{fffd}.map"), "{style}");
+        assert!(!drawn.text().contains(['\u{ffff}', '\u{1b}']), "{style}");
+    }
+    let seen = "b\u{ffff}\\x1b[2J\\x0a.map";
+    for words in [&["draw", name][..], &["check", name], &["show", name], &["claim", name, "0", "0", "5"]] {
+        let said = called(words);
+        assert!(said.text().starts_with(seen) && said.status == 0, "{said:?}");
+    }
+    let no_such = called(&["check", "\u{1b}c"]);
+    assert_eq!(no_such.err, "kbmap: \\x1bc: No such file or directory\n");
+    for words in [&["\u{1b}c"][..], &["-\u{1b}c"], &["at", name, "\u{1b}c", "0"], &["check", name, "\u{1b}c"]] {
+        let said = called(words);
+        assert!(said.status == 2 && said.err.contains("\\x1bc") && !said.err.contains('\u{1b}'), "{said:?}");
+    }
 }

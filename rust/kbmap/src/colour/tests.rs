@@ -149,13 +149,46 @@ fn own_fills() {
     assert_eq!([3, 13, 23, 33].map(|account| apart.fill(account)), [3, 4, 5, 6].map(|fill| PALETTE[fill]));
 }
 
+/// Whether no two accounts that touch have the same fill.
+fn apart(side: usize, raster: &[u8]) -> bool {
+    let (fills, borders) = (Fills::of_raster(side, raster), Borders::of_raster(side, raster));
+    let clash = |one: u8, two: u8| borders.between(one.into(), two.into()) > 0 && fills.fill(one) == fills.fill(two);
+    let apart = !(1..=63).any(|one| (1..one).any(|two| clash(one, two)));
+    assert_eq!(apart, !fills.touching);
+    apart
+}
+
 /// Twelve accounts and ten fills: 22 shares one, but not with 2 or 12, which it touches.
 #[test]
 fn touching_accounts() {
-    let fills = Fills::of_raster(4, &[1, 3, 4, 5, 6, 7, 8, 9, 10, 0, 0, 12, 0, 0, 2, 22]);
+    let raster = [1, 3, 4, 5, 6, 7, 8, 9, 10, 0, 0, 12, 0, 0, 2, 22];
+    let fills = Fills::of_raster(4, &raster);
     let taken: Vec<Colour> = (1..=10).filter(|&account| account != 2).map(|account| fills.fill(account)).collect();
     assert!(taken.contains(&fills.fill(22)));
     assert!(![2, 12].map(|account| fills.fill(account)).contains(&fills.fill(22)));
+    assert!(apart(4, &raster));
+}
+
+/// An account that surrounds the islands of ten others has its own fill, and none of them has it.
+#[test]
+fn islands() {
+    for around in [11, 15, 63] {
+        let mut raster = [around; 256];
+        (1..=10).for_each(|island| raster[usize::from(island % 4 * 4 + island / 4 * 64 + 17)] = island);
+        let fills = Fills::of_raster(16, &raster);
+        assert_eq!(fills.fill(around), PALETTE[usize::from(around % 10)]);
+        assert!(apart(16, &raster));
+    }
+}
+
+/// All 63 accounts on one bed, where each touches at most eight: those that touch have different fills.
+#[test]
+fn all_accounts() {
+    let squares: Vec<u8> = (0..1024).map(|at| (at / 128 * 8 + at % 32 / 4) as u8).collect();
+    assert!(apart(32, &squares));
+    let turn = |account: u8| if account == 63 { 63 } else { (u32::from(account) * 10 % 63) as u8 };
+    let turned: Vec<u8> = squares.into_iter().map(turn).collect();
+    assert!(apart(32, &turned));
 }
 
 #[test]
@@ -174,6 +207,8 @@ fn crowded() {
     let raster: Vec<u8> = (0..256).map(|at| (at % 63 + 1) as u8).collect();
     let fills = Fills::of_raster(16, &raster);
     assert!((1..=255).all(|account| PALETTE.contains(&fills.fill(account))));
+    let noise: Vec<u8> = (0..4096u32).map(|at| (at * at / 7 % 61 + at % 3) as u8).collect();
+    assert!(!apart(64, &noise));
 }
 
 #[test]

@@ -1,13 +1,15 @@
 //! `claim` and `release`: a block changes hands.
 
-use super::tell;
+use super::{apart, tell};
 use crate::args::{Claim, Corner};
 use crate::failure::Failure;
 use crate::input::Source;
+use crate::lock::{same_file, Locked};
 use crate::map::{self, Map};
-use crate::output::Target;
+use crate::output::{Target, Writing};
 use crate::words::{class, count, span};
-use kingletbed::{Account, Block, Refusal};
+use kingletbed::{raw, Account, Block, Refusal};
+use std::collections::BTreeMap;
 
 /// Gives a block to an account, or to nobody, and writes the changed map.
 pub fn claim(file: Source, out: Option<Target>, claim: &Claim) -> Result<(), Failure> {
@@ -15,11 +17,19 @@ pub fn claim(file: Source, out: Option<Target>, claim: &Claim) -> Result<(), Fai
         Some(out) => out,
         None => itself(&file)?,
     };
-    let mut map = Map::open(file)?;
+    let locked = lock(&file, &out)?;
+    let mut map = match &locked {
+        Some(locked) => Map::of(file.clone(), file.read_locked(locked)?)?,
+        None => Map::open(file)?,
+    };
     let before = map.bed.words().len();
     let changed = change(&mut map, claim).and_then(|done| Ok((done, map::file_of(&map.bed)?)));
-    let ((block, account), file) = changed.map_err(|refusal| map.refused(refusal, asked(claim, &map)))?;
-    out.write_bytes(&|writer| writer.write_all(&file))?;
+    let ((block, account, held), file) = changed.map_err(|refusal| map.refused(refusal, asked(claim, &map)))?;
+    let writing: &Writing = &|writer| writer.write_all(&file);
+    match locked {
+        Some(locked) => locked.replace(writing).map_err(|error| Failure::trouble(out.name(), &error))?,
+        None => out.write_bytes(writing)?,
+    }
     let span = span(block).unwrap_or_default();
     let who = match account {
         Account::NOBODY => "nobody's".to_owned(),
@@ -27,7 +37,7 @@ pub fn claim(file: Source, out: Option<Target>, claim: &Claim) -> Result<(), Fai
     };
     let after = map.bed.words().len();
     let tiles = format!("{before} before, {after} after");
-    tell(&out, &format!("{}: {span}: now {who}\n  tiles: {tiles}", out.name()))
+    tell(&out, &format!("{}: {span}: now {who}\n  held before: {held}\n  tiles: {tiles}", out.name()))
 }
 
 /// Where the result goes if nothing is said: it replaces the file itself; what came from standard input goes to
@@ -42,18 +52,49 @@ fn itself(file: &Source) -> Result<Target, Failure> {
     }
 }
 
-fn change(map: &mut Map, claim: &Claim) -> Result<(Block, Account), Refusal> {
+/// Locks a file that the result replaces, so that from reading it on nobody else changes it. One that comes as standard
+/// input as well was opened before it could be locked.
+fn lock(file: &Source, out: &Target) -> Result<Option<Locked>, Failure> {
+    match (file, out) {
+        (Source::File(path), Target::File(to)) if path.is_file() && same_file(path, to) => {
+            Locked::open_to_change(path).map(Some).map_err(|error| Failure::trouble(file.name(), &error))
+        }
+        _ => apart(file, out).map(|()| None),
+    }
+}
+
+/// The block, its new account, and what the block held before.
+fn change(map: &mut Map, claim: &Claim) -> Result<(Block, Account, String), Refusal> {
     let block = match claim.corner {
         Corner::Morton(corner) => Block { corner, size: claim.size },
         Corner::In(pixel) => Block::around(map.bed.order(), pixel, claim.size)?,
     };
+    let number = claim.account.unwrap_or(u32::from(Account::NOBODY.0));
+    let account = u8::try_from(number).map(Account).map_err(|_| Refusal::AccountTooLarge)?;
+    let held = held(map, block);
     match claim.account {
-        None => map.bed.release(block).map(|()| (block, Account::NOBODY)),
-        Some(number) => {
-            let account = u8::try_from(number).map(Account).map_err(|_| Refusal::AccountTooLarge)?;
-            map.bed.claim(block, account).map(|()| (block, account))
-        }
+        None => map.bed.release(block)?,
+        Some(_) => map.bed.claim(block, account)?,
     }
+    Ok((block, account, held?))
+}
+
+/// "account 5 (4 pixels), nobody's (12 pixels)", by rising accounts.
+fn held(map: &Map, block: Block) -> Result<String, Refusal> {
+    let pixels = |size| raw::extent(size).pixels;
+    let mut accounts = BTreeMap::new();
+    for tile in map.bed.shown(block)? {
+        *accounts.entry(tile.account()).or_insert(0) += pixels(tile.size());
+    }
+    let free = pixels(block.size) - accounts.values().sum::<u32>();
+    let mut words: Vec<(String, u32)> =
+        accounts.into_iter().map(|(Account(number), held)| (format!("account {number}"), held)).collect();
+    if free > 0 {
+        words.push(("nobody's".to_owned(), free));
+    }
+    let words: Vec<String> =
+        words.into_iter().map(|(who, held)| format!("{who} ({})", count(held as usize, "pixel"))).collect();
+    Ok(words.join(", "))
 }
 
 /// What was refused.

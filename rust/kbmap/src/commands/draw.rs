@@ -1,6 +1,6 @@
 //! `draw`: a bed as a picture, as a page, or in the terminal.
 
-use super::tell;
+use super::{apart, tell};
 use crate::args::Style;
 use crate::drawing::Drawing;
 use crate::failure::{note, Failure};
@@ -19,6 +19,7 @@ const MANY: usize = 100_000;
 const WIDTH: usize = 80;
 
 pub fn draw(file: Source, out: &Target, style: &Style) -> Result<(), Failure> {
+    apart(&file, out)?;
     let drawing = Drawing::of(Map::open(file)?)?;
     match style {
         Style::Svg => {
@@ -33,7 +34,7 @@ pub fn draw(file: Source, out: &Target, style: &Style) -> Result<(), Failure> {
         }
         Style::Html => out.write(&|writer| page::write(writer, &drawing))?,
         Style::Terminal { colour, width } => {
-            let (colour, width) = (*colour || coloured(), width.unwrap_or_else(columns));
+            let (colour, width) = (*colour || coloured(), width.unwrap_or_else(columns).max(terminal::NARROWEST));
             return out.write(&|writer| terminal::write(writer, &drawing, colour, width));
         }
     }

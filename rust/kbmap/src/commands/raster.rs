@@ -1,6 +1,6 @@
 //! `scan` and `decode`: from a picture to a map file, and back.
 
-use super::tell;
+use super::{apart, tell};
 use crate::failure::Failure;
 use crate::input::Source;
 use crate::map::{self, Map};
@@ -15,6 +15,7 @@ const PORTIONS: usize = 16;
 
 /// Makes a map file of a picture whose grey values are accounts.
 pub fn scan(image: &Source, out: &Target) -> Result<(), Failure> {
+    apart(image, out)?;
     let picture = pgm::read(&image.read()?).map_err(|reason| Failure::refused(image.name(), reason))?;
     let bed = fed(&picture).map_err(|(refusal, detail)| Failure::refusal(image.name(), refusal, &[detail]))?;
     let file = map::file_of(&bed).map_err(|refusal| Failure::refusal(out.name(), refusal, &[]))?;
@@ -46,6 +47,7 @@ fn fed(picture: &Picture) -> Result<Bed<Vec<u32>>, (Refusal, String)> {
 
 /// Makes a picture of a map file.
 pub fn decode(file: Source, out: &Target, plain: bool) -> Result<(), Failure> {
+    apart(&file, out)?;
     let map = Map::open(file)?;
     let (raster, side) = (map.raster()?, map.bed.side());
     if plain {

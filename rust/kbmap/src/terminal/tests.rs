@@ -45,10 +45,12 @@ fn letters_alone() {
 #[test]
 fn mixed_blocks() {
     let text = drawn(&bed(), false, 9);
-    let cells: Vec<&str> = text.lines().skip(3).take(3).collect();
+    let cells: Vec<&str> = text.lines().skip_while(|line| !line.is_empty()).skip(1).take(3).collect();
     assert_eq!(cells, ["    0  2", "0   5 ##", "2  ##  9"]);
-    assert!(text.contains("a cell is a block of 2 by 2 pixels"));
-    assert!(text.ends_with(" ## mixed\n"));
+    assert!(text.contains("\na cell is a block of\n2 by 2 pixels, mixed\n"));
+    let legend =
+        ["              pixels", "  5 staff          4", "  9 student        6", "  . nobody's       6", " ## mixed"];
+    assert!(text.ends_with(&format!("\n\n{}\n", legend.join("\n"))));
 }
 
 #[test]
@@ -105,4 +107,27 @@ fn numbered_columns() {
     assert!(text.contains("\n   0   4   8   12\n"), "{text}");
     let text = drawn(&bed, true, 36);
     assert!(text.contains("\n    0   2   4   6   8  10  12  14\n"), "{text}");
+}
+
+/// Ten colours and more accounts: the legend says so where colours are shown.
+#[test]
+fn shared_colours() {
+    let many = drawing(2, &[1, 2, 3, 4, 5, 6, 7, 8, 9, 10, 11, 12, 0, 0, 0, 0]);
+    assert!(drawn(&many, true, 80).ends_with("\n12 accounts share 10 colours\n"));
+    assert!(drawn(&many, true, 20).ends_with("\n12 accounts share 10\ncolours\n"));
+    assert!(!drawn(&many, false, 80).contains("colours"));
+    assert!(!drawn(&bed(), true, 80).contains("colours"));
+}
+
+#[test]
+fn wrapped_lines() {
+    let lines = |text: &str| {
+        let mut out = Vec::new();
+        wrapped(&mut out, text, 20).unwrap();
+        String::from_utf8(out).unwrap()
+    };
+    assert_eq!(lines("twenty letters, just"), "twenty letters, just\n");
+    assert_eq!(lines("twenty letters, justly"), "twenty letters,\njustly\n");
+    assert_eq!(lines("a_name_of_more_than_twenty_letters: so"), "a_name_of_more_than_\ntwenty_letters: so\n");
+    assert_eq!(lines(""), "\n");
 }
