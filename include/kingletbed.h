@@ -67,7 +67,8 @@ extern "C" {
 #define KB_MOST_SLOTS 1048576
 
 /* A byte that is no account; and the numbers in which to hand over ones that may not fit: an account as a byte, any
-   other as a word. What does not fit goes as the largest, which the call itself refuses. */
+   other as a word. What does not fit goes as the largest, which the call itself refuses (and takes as KB_MORTON where
+   it is a kind). */
 #define KB_NO_ACCOUNT 255
 #if KB_NO_ACCOUNT <= KB_HIGHEST_ACCOUNT
 #error "KB_NO_ACCOUNT is an account: kb_account_byte and kb_scan_shown need another way to say that there is none"
@@ -266,9 +267,9 @@ KB_MUST_USE static inline kb_part_tiles_answer kb_part_tiles(uint32_t order, siz
    Begin with `kb_scan scan = {0};` (in C++ `= {};`), an empty bed of order 0 without slots; then kb_scan_fresh or
    kb_scan_read. Each function makes the call of its name on the scan's own numbers and slots, refuses what that call
    refuses and brings the scan up to date; where the rest of an answer goes into the scan, it answers the number alone.
-   Numbers of 64 bits are taken, and none is cut: one that does not fit is refused as too large. Leave the fields and
-   the slots to these functions. A copy of a kb_scan has the same slots: once they change through one of the two, the
-   other is stale and must not be used. */
+   Numbers of 64 bits are taken, and none is cut: one that does not fit is refused as too large, but for a kind, which
+   is KB_MORTON as any number other than 0. Leave the fields and the slots to these functions. A copy of a kb_scan has
+   the same slots: once they change through one of the two, the other is stale and must not be used. */
 typedef struct kb_scan {
     uint32_t kind, order, pixels;
     size_t tiles;
