@@ -12,7 +12,7 @@ use Prim.Native.Nat.{ℕ, _+_, _-_, _*_, _/_, _%_, _^_, _≤_}
 use lib.ListN.{length, take, drop}
 use Rattle.tile.specs.Tile.{Tile, tile, highestOrder}
 use Rattle.quadtree.specs.Raster.{Aligned}
-use Rattle.quadtree.specs.Tiling.{tileRun, Between, Apart}
+use Rattle.quadtree.specs.Tiling.{equalTiles, Between, Apart}
 
 pub record Block (c k : ℕ) : Type 0 where
   pub size : k ≤ highestOrder
@@ -28,8 +28,8 @@ parentOf c k = c - quadrantOf c k * 4 ^ k
 pub record Beside (ts : List Tile) (lo hi c k a : ℕ) : Type 0 where
   pub left : quadrantOf c k ≤ lo
   pub right : 3 - quadrantOf c k ≤ length ts - hi
-  pub ahead : take (quadrantOf c k) (drop (lo - quadrantOf c k) ts) ≡ tileRun k a (quadrantOf c k) (parentOf c k)
-  pub behind : take (3 - quadrantOf c k) (drop hi ts) ≡ tileRun k a (3 - quadrantOf c k) (c + 4 ^ k)
+  pub ahead : take (quadrantOf c k) (drop (lo - quadrantOf c k) ts) ≡ equalTiles k a (quadrantOf c k) (parentOf c k)
+  pub behind : take (3 - quadrantOf c k) (drop hi ts) ≡ equalTiles k a (3 - quadrantOf c k) (c + 4 ^ k)
 
 pub record Stands (g : ℕ → ℕ) (n : ℕ) (ts : List Tile) (a lo hi c k : ℕ) : Type 0 where
   pub order : lo ≤ hi

@@ -32,7 +32,7 @@ fn beside(list: &[u32], lo: usize, hi: usize, corner: u32, size: u32, account: u
     if list.len() - hi < after {
         return false;
     }
-    if !list_run::is_run(
+    if !list_equal::are_equal(
         list,
         lo - before,
         before,
@@ -42,7 +42,7 @@ fn beside(list: &[u32], lo: usize, hi: usize, corner: u32, size: u32, account: u
     ) {
         return false;
     }
-    list_run::is_run(list, hi, after, corner + area, size, account)
+    list_equal::are_equal(list, hi, after, corner + area, size, account)
 }
 
 // Merges a tile in place of those from lo up to hi with its siblings on both sides, over as many levels as they are all

@@ -15,8 +15,8 @@ use lib.Seq.{take-add, drop-drop, drop-at, take-at, length-take-le}
 use Rattle.tile.specs.Tile.{Tile, tile}
 use Rattle.quadtree.specs.Raster.{Aligned}
 use Rattle.quadtree.proofs.Alignment.{aligned-gap, area-pos, cmp, below, same, above}
-use Rattle.quadtree.specs.Tiling.{tileRun, Between, Apart}
-use Rattle.quadtree.proofs.Merge.{tileRun-length, between-merge}
+use Rattle.quadtree.specs.Tiling.{equalTiles, Between, Apart}
+use Rattle.quadtree.proofs.Merge.{equalTiles-length, between-merge}
 
 pub record Place (k c i p : ℕ) : Type 0 where
   pub four : i ≤ 3
@@ -49,22 +49,22 @@ place k c m = go (m .times) (m .is) (c / 4 ^ k) (ap (λ (x : ℕ). x / 4 ^ k) (m
 
 module _ (ts : List Tile) (lo hi : ℕ) (l : lo ≤ length ts) (h : hi ≤ length ts) (k a c i p : ℕ) (x : Place k c i p) where
   pub between-merge-at : {g : ℕ → ℕ} {n : ℕ} → Between g n (take lo ts) (drop hi ts) (tile c k a) → i ≤ lo →
-      take i (drop (lo - i) ts) ≡ tileRun k a i p → take (3 - i) (drop hi ts) ≡ tileRun k a (3 - i) (c + 4 ^ k) → Between g n (take (lo - i) ts) (drop (hi + (3 - i)) ts) (tile p (suc k) a)
+      take i (drop (lo - i) ts) ≡ equalTiles k a i p → take (3 - i) (drop hi ts) ≡ equalTiles k a (3 - i) (c + 4 ^ k) → Between g n (take (lo - i) ts) (drop (hi + (3 - i)) ts) (tile p (suc k) a)
   between-merge-at {g} {n} t b ea eb = between-merge (take (lo - i) ts) (drop (hi + (3 - i)) ts) k a i (3 - i) c p (omega (arith, x .four)) (x .from) (x .aligned) (rw (← ea, ← eb, ← take-add (lo - i) i ts, u, ← drop-drop (3 - i) hi ts, take-append-drop) t)
     where
       u : lo - i + i ≡ lo
       u = omega arith
 
-  pub apart-at : (i ≤ lo → 3 - i ≤ length ts - hi → take i (drop (lo - i) ts) ≡ tileRun k a i p → take (3 - i) (drop hi ts) ≡ tileRun k a (3 - i) (c + 4 ^ k) → ⊥) → Apart (take lo ts) (drop hi ts) (tile c k a)
+  pub apart-at : (i ≤ lo → 3 - i ≤ length ts - hi → take i (drop (lo - i) ts) ≡ equalTiles k a i p → take (3 - i) (drop hi ts) ≡ equalTiles k a (3 - i) (c + 4 ^ k) → ⊥) → Apart (take lo ts) (drop hi ts) (tile c k a)
   apart-at never j q s r f m e ea eb = go (place-unique (record { four = f; from = e; aligned = m }) x)
     where
       go : (j ≡ i) × (q ≡ p) → ⊥
-      go w = never (omega (arith, lens)) (omega (arith, ap length eb, length-append (tileRun k a (3 - j) (c + 4 ^ k)) r, tileRun-length k a (3 - j) (c + 4 ^ k), length-drop hi ts))
-          (sym (drop-at (take (lo - i) ts) (take i (drop (lo - i) ts)) (lo - i) (length-take-le (lo - i) ts (omega arith))) ∙ ap (λ (y : List Tile). drop (lo - i) y) (sym (take-add (lo - i) i ts) ∙ ap (λ (y : ℕ). take y ts) back ∙ ea ∙ ap (λ (y : List Tile). s ++ y) (rw (w .0, w .1))) ∙ drop-at s (tileRun k a i p) (lo - i) (omega (arith, lens)))
-          (ap (λ (y : List Tile). take (3 - i) y) (rw (w .0) at eb) ∙ take-at (tileRun k a (3 - i) (c + 4 ^ k)) r (3 - i) (tileRun-length k a (3 - i) (c + 4 ^ k)))
+      go w = never (omega (arith, lens)) (omega (arith, ap length eb, length-append (equalTiles k a (3 - j) (c + 4 ^ k)) r, equalTiles-length k a (3 - j) (c + 4 ^ k), length-drop hi ts))
+          (sym (drop-at (take (lo - i) ts) (take i (drop (lo - i) ts)) (lo - i) (length-take-le (lo - i) ts (omega arith))) ∙ ap (λ (y : List Tile). drop (lo - i) y) (sym (take-add (lo - i) i ts) ∙ ap (λ (y : ℕ). take y ts) back ∙ ea ∙ ap (λ (y : List Tile). s ++ y) (rw (w .0, w .1))) ∙ drop-at s (equalTiles k a i p) (lo - i) (omega (arith, lens)))
+          (ap (λ (y : List Tile). take (3 - i) y) (rw (w .0) at eb) ∙ take-at (equalTiles k a (3 - i) (c + 4 ^ k)) r (3 - i) (equalTiles-length k a (3 - i) (c + 4 ^ k)))
         where
           lens : lo ≡ length s + j
-          lens = sym (length-take-le lo ts l) ∙ ap length ea ∙ length-append s (tileRun k a j q) ∙ ap (λ (y : ℕ). length s + y) (tileRun-length k a j q)
+          lens = sym (length-take-le lo ts l) ∙ ap length ea ∙ length-append s (equalTiles k a j q) ∙ ap (λ (y : ℕ). length s + y) (equalTiles-length k a j q)
 
           back : lo - i + i ≡ lo
           back = omega (arith, lens)

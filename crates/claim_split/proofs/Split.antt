@@ -20,8 +20,8 @@ use Rattle.quadtree.specs.Raster.{Aligned, Uniform}
 use Rattle.quadtree.specs.Quadtree.{single, four, blocks}
 use Rattle.quadtree.proofs.Alignment.{aligned-down, aligned-next, aligned-gap, aligned-quarter, area-pos, area-mono}
 use Rattle.quadtree.proofs.Blocks.{blocks-uniform, blocks-mixed}
-use Rattle.quadtree.specs.Tiling.{tileRun}
-use Rattle.quadtree.proofs.Merge.{tileRun-length}
+use Rattle.quadtree.specs.Tiling.{equalTiles}
+use Rattle.quadtree.proofs.Merge.{equalTiles-length}
 use Rattle.claim_split.proofs.Splice.{Alone}
 use Rattle.claim_split.specs.Split.{Split, pieces}
 
@@ -97,17 +97,17 @@ module _ {g : ℕ → ℕ} {k c a v s d : ℕ} (t : Split g k c a v (suc s) d) (
     one y w q l u side = blocks-uniform g v s y (λ z zl zh. t .outside z (omega arith) (omega arith) (λ n. elim side [ inl b ↦ omega (arith, n .0, x .from) | inr b ↦ omega (arith, n .1, x .upto) ])) ∙ single-some y s v (t .owned (omega arith)) ∙ ap (λ (p : ℕ). tile p s v ∷ []) q
 
     abbrev Taken : ℕ → Type 0
-    Taken i = four (λ y. blocks g s y) s d ≡ tileRun s v i d ++ (blocks g s e ++ tileRun s v (3 - i) (e + 4 ^ s))
+    Taken i = four (λ y. blocks g s y) s d ≡ equalTiles s v i d ++ (blocks g s e ++ equalTiles s v (3 - i) (e + 4 ^ s))
 
     taken : (i : ℕ) → i ≤ 3 → e ≡ d + i * 4 ^ s → Taken i
-    unfolding four tileRun
+    unfolding four equalTiles
     taken zero l q = rw (one (d + 4 ^ s) (e + 4 ^ s) (omega arith) (omega arith) (omega arith) (inr (omega arith)), one (d + 2 * 4 ^ s) (e + 4 ^ s + 4 ^ s) (omega arith) (omega arith) (omega arith) (inr (omega arith)), one (d + 3 * 4 ^ s) (e + 4 ^ s + 4 ^ s + 4 ^ s) (omega arith) (omega arith) (omega arith) (inr (omega arith)), (let p : e ≡ d = omega arith in p))
     taken (suc zero) l q = rw (one d d refl (omega arith) (omega arith) (inl (omega arith)), (let p : d + 4 ^ s ≡ e = omega arith in p), one (d + 2 * 4 ^ s) (e + 4 ^ s) (omega arith) (omega arith) (omega arith) (inr (omega arith)), one (d + 3 * 4 ^ s) (e + 4 ^ s + 4 ^ s) (omega arith) (omega arith) (omega arith) (inr (omega arith)))
     taken (suc (suc zero)) l q = rw (one d d refl (omega arith) (omega arith) (inl (omega arith)), one (d + 4 ^ s) (d + 4 ^ s) refl (omega arith) (omega arith) (inl (omega arith)), (let p : d + 2 * 4 ^ s ≡ e = omega arith in p), one (d + 3 * 4 ^ s) (e + 4 ^ s) (omega arith) (omega arith) (omega arith) (inr (omega arith)))
     taken (suc (suc (suc zero))) l q = rw (one d d refl (omega arith) (omega arith) (inl (omega arith)), one (d + 4 ^ s) (d + 4 ^ s) refl (omega arith) (omega arith) (inl (omega arith)), one (d + 2 * 4 ^ s) (d + 4 ^ s + 4 ^ s) (omega arith) (omega arith) (omega arith) (inl (omega arith)), (let p : d + 3 * 4 ^ s ≡ e = omega arith in p), append-nil)
     taken (suc (suc (suc (suc i)))) l q = absurd (omega arith)
 
-    pub split-step : blocks g (suc s) d ≡ tileRun s v i d ++ (blocks g s e ++ tileRun s v (3 - i) (e + 4 ^ s))
+    pub split-step : blocks g (suc s) d ≡ equalTiles s v i d ++ (blocks g s e ++ equalTiles s v (3 - i) (e + 4 ^ s))
     split-step = blocks-mixed g s d (split-mixed t (omega arith) (g d)) ∙ taken i (x .four) (x .is)
 
 pub split-end : {g : ℕ → ℕ} {k c a v d : ℕ} → Split g k c a v k d → (d ≡ c) × (blocks g k d ≡ single c k a)
@@ -121,7 +121,7 @@ split-length {g} {k} {c} {a} {v} (suc l) (suc s) d e t =
     let y = child t h in
     let x : ℕ = d + (c - d) / 4 ^ s * 4 ^ s in
     let ih = split-length l s x (omega arith) (split-down t h y) in
-    rw (split-step t h y, length-append (tileRun s v ((c - d) / 4 ^ s) d), length-append (blocks g s x), tileRun-length, tileRun-length) (omega (arith, y .four, ih))
+    rw (split-step t h y, length-append (equalTiles s v ((c - d) / 4 ^ s) d), length-append (blocks g s x), equalTiles-length, equalTiles-length) (omega (arith, y .four, ih))
 
 pub split-pieces : {g : ℕ → ℕ} {k c a v : ℕ} (l s d : ℕ) → s ≡ k + l → Split g k c a v s d → blocks g s d ≡ pieces k c a v l d
 unfolding pieces

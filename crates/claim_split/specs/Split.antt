@@ -8,7 +8,7 @@ use Prim.Native.Nat.{ℕ, zero, suc, _+_, _-_, _*_, _/_, _^_, _≤_, _<_}
 use Rattle.tile.specs.Tile.{Tile}
 use Rattle.quadtree.specs.Raster.{Aligned, Uniform}
 use Rattle.quadtree.specs.Quadtree.{single}
-use Rattle.quadtree.specs.Tiling.{tileRun}
+use Rattle.quadtree.specs.Tiling.{equalTiles}
 
 pub record Split (g : ℕ → ℕ) (k c a v s d : ℕ) : Type 0 where
   pub aligned : Aligned k c
@@ -24,5 +24,5 @@ pub record Split (g : ℕ → ℕ) (k c a v s d : ℕ) : Type 0 where
 unfoldable pub pieces : ℕ → ℕ → ℕ → ℕ → ℕ → ℕ → List Tile
 pieces k c a v zero d = single c k a
 pieces k c a v (suc l) d =
-    tileRun (k + l) v ((c - d) / 4 ^ (k + l)) d ++ (pieces k c a v l (d + (c - d) / 4 ^ (k + l) * 4 ^ (k + l))
-    ++ tileRun (k + l) v (3 - (c - d) / 4 ^ (k + l)) (d + (c - d) / 4 ^ (k + l) * 4 ^ (k + l) + 4 ^ (k + l)))
+    equalTiles (k + l) v ((c - d) / 4 ^ (k + l)) d ++ (pieces k c a v l (d + (c - d) / 4 ^ (k + l) * 4 ^ (k + l))
+    ++ equalTiles (k + l) v (3 - (c - d) / 4 ^ (k + l)) (d + (c - d) / 4 ^ (k + l) * 4 ^ (k + l) + 4 ^ (k + l)))

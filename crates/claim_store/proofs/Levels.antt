@@ -1,5 +1,5 @@
 -- The tiles of a split block written level by level, as equations between lists.
---     both-runs      two runs written, and what is between them left to write
+--     both-written      equal tiles written on both sides, and what is between them left to write
 --     Turned ..      the numbers of one level
 --     Putting ..     the tiles of the block of size s at d are left to write from `left` up to `right`
 --     level, put-level          one level written
@@ -14,18 +14,18 @@ use lib.Seq.{set-split, take-at, drop-at, take-take, take-append-le, drop-drop, 
 use Rattle.tile.specs.Tile.{tile, wordOf, highestOrder}
 use Rattle.quadtree.specs.Quadtree.{single}
 use Rattle.quadtree.proofs.Alignment.{area-pos}
-use Rattle.quadtree.specs.Tiling.{tileRun}
-use Rattle.quadtree.proofs.Merge.{tileRun-length}
+use Rattle.quadtree.specs.Tiling.{equalTiles}
+use Rattle.quadtree.proofs.Merge.{equalTiles-length}
 use Rattle.claim_split.specs.Split.{pieces}
 use Rattle.claim_split.proofs.Split.{holder, single-some}
 use Rattle.claim_plan.specs.Plan.{inner}
 use Rattle.claim_plan.proofs.Counts.{inner-none, inner-one}
 use Rattle.claim_store.specs.Stores.{Drawn}
 
-pub both-runs : (t u w x r1 r2 : List ℕ) (left right i j : ℕ) → length r1 ≡ i → length r2 ≡ j → left + i ≤ right → right + j ≤ length t →
+pub both-written : (t u w x r1 r2 : List ℕ) (left right i j : ℕ) → length r1 ≡ i → length r2 ≡ j → left + i ≤ right → right + j ≤ length t →
     u ≡ take left t ++ (r1 ++ drop (left + i) t) → w ≡ take right u ++ (r2 ++ drop (right + j) u) →
     take (left + i) w ++ (x ++ drop right w) ≡ take left t ++ ((r1 ++ (x ++ r2)) ++ drop (right + j) t)
-both-runs t u w x r1 r2 left right i j ei ej h l eu ew =
+both-written t u w x r1 r2 left right i j ei ej h l eu ew =
     rw (front, back) (simp append-assoc)
   where
     lp : length (take left t ++ r1) ≡ left + i
@@ -88,7 +88,7 @@ turned len left k c a v s d area w h es =
     })
 
 pieces-step : (k c a v s d area : ℕ) → k < s → area ≡ 4 ^ (s - 1) → map wordOf (pieces k c a v (s - k) d) ≡
-    map wordOf (tileRun (s - 1) v ((c - d) / area) d) ++ (map wordOf (pieces k c a v (s - 1 - k) (d + (c - d) / area * area)) ++ map wordOf (tileRun (s - 1) v (3 - (c - d) / area) (d + (c - d) / area * area + area)))
+    map wordOf (equalTiles (s - 1) v ((c - d) / area) d) ++ (map wordOf (pieces k c a v (s - 1 - k) (d + (c - d) / area * area)) ++ map wordOf (equalTiles (s - 1) v (3 - (c - d) / area) (d + (c - d) / area * area + area)))
 unfolding pieces
 pieces-step k c a v s d area h es =
     let p : s - k ≡ suc (s - 1 - k) = omega arith in
@@ -108,17 +108,17 @@ module _ {b t : List ℕ} {left right k c a v s d area : ℕ} (m : Putting b t l
   back : right - (3 - (c - d) / area) + (3 - (c - d) / area) ≡ right
   back = omega (arith, level .four, m .end)
 
-  pub put-level : {u r : List ℕ} → u ≡ take left t ++ (map wordOf (tileRun (s - 1) v ((c - d) / area) d) ++ drop (left + (c - d) / area) t) →
-      r ≡ take (right - (3 - (c - d) / area)) u ++ (map wordOf (tileRun (s - 1) v (3 - (c - d) / area) (d + (c - d) / area * area + area)) ++ drop (right - (3 - (c - d) / area) + (3 - (c - d) / area)) u) →
+  pub put-level : {u r : List ℕ} → u ≡ take left t ++ (map wordOf (equalTiles (s - 1) v ((c - d) / area) d) ++ drop (left + (c - d) / area) t) →
+      r ≡ take (right - (3 - (c - d) / area)) u ++ (map wordOf (equalTiles (s - 1) v (3 - (c - d) / area) (d + (c - d) / area * area + area)) ++ drop (right - (3 - (c - d) / area) + (3 - (c - d) / area)) u) →
       length r ≡ length t → Putting b r (left + (c - d) / area) (right - (3 - (c - d) / area)) k c a v (s - 1) (d + (c - d) / area * area)
   put-level {u} {r} eu ew lr = record { drawn = rw lr (level .drawn); end = omega (arith, level .four, m .end); rest = m .rest ∙ ap (λ (l : List ℕ). take left t ++ (l ++ drop right t)) (pieces-step k c a v s d area h es) ∙ sym (rw back at both) }
     where
-      run-length : (i x : ℕ) → length (map wordOf (tileRun (s - 1) v i x)) ≡ i
-      run-length i x = length-map (tileRun (s - 1) v i x) wordOf ∙ tileRun-length (s - 1) v i x
+      side-length : (i x : ℕ) → length (map wordOf (equalTiles (s - 1) v i x)) ≡ i
+      side-length i x = length-map (equalTiles (s - 1) v i x) wordOf ∙ equalTiles-length (s - 1) v i x
 
       both : take (left + (c - d) / area) r ++ (map wordOf (pieces k c a v (s - 1 - k) (d + (c - d) / area * area)) ++ drop (right - (3 - (c - d) / area)) r) ≡
-          take left t ++ ((map wordOf (tileRun (s - 1) v ((c - d) / area) d) ++ (map wordOf (pieces k c a v (s - 1 - k) (d + (c - d) / area * area)) ++ map wordOf (tileRun (s - 1) v (3 - (c - d) / area) (d + (c - d) / area * area + area)))) ++ drop (right - (3 - (c - d) / area) + (3 - (c - d) / area)) t)
-      both = both-runs t u r (map wordOf (pieces k c a v (s - 1 - k) (d + (c - d) / area * area))) (map wordOf (tileRun (s - 1) v ((c - d) / area) d)) (map wordOf (tileRun (s - 1) v (3 - (c - d) / area) (d + (c - d) / area * area + area))) left (right - (3 - (c - d) / area)) ((c - d) / area) (3 - (c - d) / area) (run-length _ _) (run-length _ _) (omega (arith, level .four, m .end)) (omega (arith, back, m .end, m .drawn .fits)) eu ew
+          take left t ++ ((map wordOf (equalTiles (s - 1) v ((c - d) / area) d) ++ (map wordOf (pieces k c a v (s - 1 - k) (d + (c - d) / area * area)) ++ map wordOf (equalTiles (s - 1) v (3 - (c - d) / area) (d + (c - d) / area * area + area)))) ++ drop (right - (3 - (c - d) / area) + (3 - (c - d) / area)) t)
+      both = both-written t u r (map wordOf (pieces k c a v (s - 1 - k) (d + (c - d) / area * area))) (map wordOf (equalTiles (s - 1) v ((c - d) / area) d)) (map wordOf (equalTiles (s - 1) v (3 - (c - d) / area) (d + (c - d) / area * area + area))) left (right - (3 - (c - d) / area)) ((c - d) / area) (3 - (c - d) / area) (side-length _ _) (side-length _ _) (omega (arith, level .four, m .end)) (omega (arith, back, m .end, m .drawn .fits)) eu ew
 
 single-words : (k c a : ℕ) → 0 < a → map wordOf (single c k a) ≡ wordOf (tile c k a) ∷ []
 single-words k c a h = rw (single-some c k a h)

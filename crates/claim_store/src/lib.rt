@@ -46,10 +46,10 @@ pub fn write_pieces(slots: &mut [u32], change: claim_plan::Change, count: usize,
         let place = (corner - d) / area;
         let before = place as usize;
         let after = 3 - before;
-        list_run::write_run(slots, left, before, d, s, change.owner);
+        list_equal::write_equal(slots, left, before, d, s, change.owner);
         d += place * area;
         right -= after;
-        list_run::write_run(slots, right, after, d + area, s, change.owner);
+        list_equal::write_equal(slots, right, after, d + area, s, change.owner);
         left += before;
     }
     if account != 0 {

@@ -16,9 +16,9 @@ use Rattle.tile.specs.Tile.{Tile, tile, stop, tileOf}
 use Rattle.tile.specs.Slots.{tiles}
 use Rattle.quadtree.specs.Raster.{Aligned}
 use Rattle.quadtree.proofs.Alignment.{area-pos, aligned-zero, aligned-gap, aligned-down}
-use Rattle.quadtree.specs.Tiling.{tileRun, Between}
-use Rattle.quadtree.proofs.Merge.{tileRun-length, between-merge}
-use Rattle.list_push.specs.Merging.{upTo, Levels, EndsWith, MergedInto}
+use Rattle.quadtree.specs.Tiling.{Levels, equalTiles, Between}
+use Rattle.quadtree.proofs.Merge.{equalTiles-length, between-merge}
+use Rattle.list_push.specs.Merging.{upTo, EndsWith, MergedInto}
 
 pub record Grown (s : List ℕ) (i : ℕ) (t : Tile) (j q : ℕ) : Type 0 where
   pub back : j ≤ i
@@ -42,8 +42,8 @@ pub sibling-room : (t : Tile) {most : ℕ} (q : ℕ) → Levels (stop t) most �
 sibling-room t q l h = omega (arith, level-room t (suc q) l h)
 
 module _ {s : List ℕ} {i : ℕ} {t : Tile} {j q most : ℕ} (l : Levels (stop t) most) (grown : Grown s i t j q) where
-  pub grown-more : q < most → 3 ≤ j → tiles (take j s) ≡ tiles (take (j - 3) s) ++ tileRun q (t .account) 3 (stop t - 4 * 4 ^ q) → Grown s i t (j - 3) (q + 1)
-  unfolding tileRun
+  pub grown-more : q < most → 3 ≤ j → tiles (take j s) ≡ tiles (take (j - 3) s) ++ equalTiles q (t .account) 3 (stop t - 4 * 4 ^ q) → Grown s i t (j - 3) (q + 1)
+  unfolding equalTiles
   grown-more u v e =
       let room = level-room t (suc q) l u in
       let four : 4 * 4 ^ q ≡ 4 ^ suc q = omega arith in
@@ -58,7 +58,7 @@ module _ {s : List ℕ} {i : ℕ} {t : Tile} {j q most : ℕ} (l : Levels (stop 
     merged u = record { at = grown .back; room = level-room t q l h; few = omega (arith, l .few); between = grown .between; ended = u }
 
     pub merged-short : j < 3 → j ≤ length s → MergedInto s i t (record { at = j; size = q })
-    merged-short u v = merged (λ m d. omega (arith, ap length (d .3), length-append (d .0) (tileRun q (t .account) 3 (d .1)), tileRun-length q (t .account) 3 (d .1), length-map (take j s) tileOf, length-take-le j s v))
+    merged-short u v = merged (λ m d. omega (arith, ap length (d .3), length-append (d .0) (equalTiles q (t .account) 3 (d .1)), equalTiles-length q (t .account) 3 (d .1), length-map (take j s) tileOf, length-take-le j s v))
 
     pub merged-other : (EndsWith (tiles (take j s)) (stop t) q (t .account) → ⊥) → MergedInto s i t (record { at = j; size = q })
     merged-other u = merged (λ m. u)

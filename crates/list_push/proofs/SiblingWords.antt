@@ -13,7 +13,7 @@ use Rattle.basics.proofs.Tests.{Test, holds, fails, test-eqb}
 use Rattle.tile.specs.Tile.{Tile, tile, tileOf, wordOf}
 use Rattle.tile.specs.Slots.{tiles}
 use Rattle.tile.proofs.TileLaws.{tile-word, word-tile}
-use Rattle.quadtree.specs.Tiling.{tileRun}
+use Rattle.quadtree.specs.Tiling.{equalTiles}
 use Rattle.list_push.specs.Merging.{EndsWith, Room, Three}
 
 pub true-false : true ≡ false → ⊥
@@ -39,9 +39,9 @@ module _ {s : List ℕ} {i e k a : ℕ} (room : Room s i e k a) where
   last-three : tiles (take i s) ≡ tiles (take (i - 3) s) ++ tileOf (getD s (i - 3) 0) ∷ tileOf (getD s (i - 2) 0) ∷ tileOf (getD s (i - 1) 0) ∷ []
   last-three = rw (last-tile s i (i - 1) (omega (arith, room)) (room .within), last-tile s (i - 1) (i - 2) (omega (arith, room)) (omega (arith, room)), last-tile s (i - 2) (i - 3) (omega (arith, room)) (omega (arith, room))) (simp append-assoc)
 
-  run-of : (p : ℕ) → e ≡ p + 4 * 4 ^ k → tileRun k a 3 p ≡ tile (e - 4 * 4 ^ k) k a ∷ tile (e - 3 * 4 ^ k) k a ∷ tile (e - 2 * 4 ^ k) k a ∷ []
-  unfolding tileRun
-  run-of p q =
+  three-tiles : (p : ℕ) → e ≡ p + 4 * 4 ^ k → equalTiles k a 3 p ≡ tile (e - 4 * 4 ^ k) k a ∷ tile (e - 3 * 4 ^ k) k a ∷ tile (e - 2 * 4 ^ k) k a ∷ []
+  unfolding equalTiles
+  three-tiles p q =
       let x : p ≡ e - 4 * 4 ^ k = omega arith in
       let y : p + 4 ^ k ≡ e - 3 * 4 ^ k = omega arith in
       let z : p + 4 ^ k + 4 ^ k ≡ e - 2 * 4 ^ k = omega arith in
@@ -53,12 +53,12 @@ module _ {s : List ℕ} {i e k a : ℕ} (room : Room s i e k a) where
   packed : (w j : ℕ) → tileOf w ≡ tile (e - j * 4 ^ k) k a → w ≡ word j
   packed w j q = sym (word-tile w) ∙ ap wordOf q
 
-  words-siblings : Words → tiles (take i s) ≡ tiles (take (i - 3) s) ++ tileRun k a 3 (e - 4 * 4 ^ k)
-  words-siblings q = last-three ∙ rw (unpacked _ 2 (q .0), unpacked _ 3 (q .1), unpacked _ 4 (q .2), run-of (e - 4 * 4 ^ k) (omega arith))
+  words-siblings : Words → tiles (take i s) ≡ tiles (take (i - 3) s) ++ equalTiles k a 3 (e - 4 * 4 ^ k)
+  words-siblings q = last-three ∙ rw (unpacked _ 2 (q .0), unpacked _ 3 (q .1), unpacked _ 4 (q .2), three-tiles (e - 4 * 4 ^ k) (omega arith))
 
   siblings-words : EndsWith (tiles (take i s)) e k a → Words
   siblings-words q =
-      let r = same-end (tiles (take (i - 3) s)) (q .0) _ _ _ _ _ _ (sym last-three ∙ q .3 ∙ ap (λ (ts : List Tile). q .0 ++ ts) (run-of (q .1) (q .2))) in
+      let r = same-end (tiles (take (i - 3) s)) (q .0) _ _ _ _ _ _ (sym last-three ∙ q .3 ∙ ap (λ (ts : List Tile). q .0 ++ ts) (three-tiles (q .1) (q .2))) in
       (packed _ 2 (r .2), packed _ 3 (r .1), packed _ 4 (r .0))
 
   pub three-not : (Words → ⊥) → Three s i e k a false

@@ -1,6 +1,5 @@
 -- Inner: how a tile merges with the tiles of the words ahead of it. Definitions only.
 --     upTo t q             the tile of size q and t's account that ends where t ends
---     Levels e l           blocks end at e up to the size l, and no larger one
 --     EndsWith ts e k a    ts ends with the three siblings ahead of the tile of size k and account a that ends at e
 --     Room s i e k a       such siblings are asked for among the first i words of s
 --     Three s i e k a r    r says whether these words end with them
@@ -15,20 +14,15 @@ use lib.ListN.{length, take}
 use Rattle.tile.specs.Tile.{Tile, tile, stop, highestOrder, highestAccount}
 use Rattle.tile.specs.Slots.{tiles}
 use Rattle.quadtree.specs.Raster.{Aligned}
-use Rattle.quadtree.specs.Tiling.{tileRun, Between}
+use Rattle.quadtree.specs.Tiling.{equalTiles, Between}
 use Rattle.list_push.specs.declared.Top.{Top}
 
 abbrev pub upTo : Tile → ℕ → Tile
 upTo t q = tile (stop t - 4 ^ q) q (t .account)
 
-pub record Levels (e l : ℕ) : Type 0 where
-  pub few : l ≤ highestOrder
-  pub ends : Aligned l e
-  pub over : Aligned (suc l) e → ⊥
-
 -- the three siblings ahead of a tile end the list
 abbrev pub EndsWith : List Tile → ℕ → ℕ → ℕ → Type 0
-EndsWith ts e k a = (h : List Tile) × (p : ℕ) × (e ≡ p + 4 * 4 ^ k) × (ts ≡ h ++ tileRun k a 3 p)
+EndsWith ts e k a = (h : List Tile) × (p : ℕ) × (e ≡ p + 4 * 4 ^ k) × (ts ≡ h ++ equalTiles k a 3 p)
 
 -- three words before the i-th may be those siblings, and their numbers are packed
 pub record Room (s : List ℕ) (i e k a : ℕ) : Type 0 where
@@ -40,7 +34,7 @@ pub record Room (s : List ℕ) (i e k a : ℕ) : Type 0 where
   pub low : a ≤ highestAccount
 
 pub record Three (s : List ℕ) (i e k a : ℕ) (r : Bool) : Type 0 where
-  pub are : r ≡ true → tiles (take i s) ≡ tiles (take (i - 3) s) ++ tileRun k a 3 (e - 4 * 4 ^ k)
+  pub are : r ≡ true → tiles (take i s) ≡ tiles (take (i - 3) s) ++ equalTiles k a 3 (e - 4 * 4 ^ k)
   pub are-not : r ≡ false → EndsWith (tiles (take i s)) e k a → ⊥
 
 pub record MergedInto (s : List ℕ) (i : ℕ) (t : Tile) (m : Top) : Type 0 where

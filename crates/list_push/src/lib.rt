@@ -3,7 +3,8 @@
 ghost use Prim.Native.Nat.{_+_, _^_, _≤_};
 ghost use lib.ListN.{length};
 ghost use Rattle.tile.specs.Tile.{tile, highestOrder, highestAccount};
-ghost use Rattle.list_push.specs.Merging.{Levels, Room, Three, MergedInto};
+ghost use Rattle.quadtree.specs.Tiling.{Levels};
+ghost use Rattle.list_push.specs.Merging.{Room, Three, MergedInto};
 
 // What a tile becomes when it merges with the words ahead of it: the slot that it takes, and its size.
 pub struct Top {

@@ -1,5 +1,4 @@
--- Quadrant part (document 01, "Other calls"): the run of a list whose tiles lie wholly inside a quadrant. Definitions
--- only.
+-- Quadrant part (document 01, "Other calls"): the tiles of a list that lie wholly inside a quadrant. Definitions only.
 --     isInside c k u                the tile u lies wholly inside the block of size k at the corner c
 --     partCheck ..                  1, 2, 11 to 16, then 32
 --     partOf n t slots c k          the companion: the part's position, behind all tiles with a smaller corner, and its

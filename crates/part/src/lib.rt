@@ -1,4 +1,4 @@
-// Quadrant part: the run of a list inside a quadrant, by binary search.
+// Quadrant part: the tiles of a list inside a quadrant, by binary search.
 ghost use mathlib.Core.Path.{_≡_};
 ghost use Prim.Native.Nat.{ℕ};
 ghost use Rattle.refusal.specs.Refusal.{accepted};

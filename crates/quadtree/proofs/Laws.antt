@@ -8,11 +8,13 @@ use Rattle.tile.specs.Tile.{Tile, stop}
 use Rattle.quadtree.specs.Raster.{Aligned, Uniform, accountAt, paint, _∈_, Shows}
 use Rattle.quadtree.specs.Quadtree.{Largest, LinearQuadtree, quadtree}
 use Rattle.quadtree.specs.Valid.{Valid}
+use Rattle.quadtree.specs.Runs.{Run, Runs, runsOf, tilesOf}
 use Rattle.quadtree.proofs.ValidLaws.{quadtree-valid, quadtree-shown, valid-unique}
 use Rattle.quadtree.proofs.Least.{shows-least}
 use Rattle.quadtree.proofs.Linear.{quadtree-linear, linear-unique, valid-linear, valid-cover, quadtree-shows}
 use Rattle.quadtree.proofs.Change.{Fits, Completes, valid-remove, valid-insert}
 use Rattle.quadtree.proofs.Merge.{Places, places-painted}
+use Rattle.quadtree.proofs.RunLaws.{runs-cut, runsOf-runs, runs-linear}
 
 -- Cover. In a valid list a block that is uniform with a non-zero account lies inside one tile, which has that account.
 pub cover : {n : ℕ} {ts : List Tile} (k c a : ℕ) → Valid n ts → k ≤ n → Aligned k c → c < 4 ^ n → 0 < a → Uniform (accountAt ts) a c (c + 4 ^ k) →
@@ -64,3 +66,15 @@ merge = places-painted
 -- Minimum. No list of quadrant tiles that shows a raster, sorted or not, overlaps of one account allowed, is shorter than its linear quadtree.
 pub minimum : {n : ℕ} {f : ℕ → ℕ} {ts : List Tile} → Shows n f ts → length (quadtree n f) ≤ length ts
 minimum s = shows-least s
+
+-- Runs. In Morton order a raster is a sequence of runs, longest stretches of one account. Its runs of somebody's, each cut from its start on into the largest blocks that fit, are its linear quadtree: nothing merges ..
+pub runs : (n : ℕ) (f : ℕ → ℕ) (rs : List Run) → Runs f (4 ^ n) 0 rs → tilesOf n rs ≡ quadtree n f
+runs = runs-cut
+
+-- .. every raster has such runs ..
+pub runs-there : (n : ℕ) (f : ℕ → ℕ) → Runs f (4 ^ n) 0 (runsOf n f)
+runs-there = runsOf-runs
+
+-- .. and the same in a reader's terms.
+pub runs-are-linear : (n : ℕ) (f : ℕ → ℕ) → LinearQuadtree n f (tilesOf n (runsOf n f))
+runs-are-linear = runs-linear

@@ -11,6 +11,11 @@
 --     Least       the minimum
 --     Change      valid lists changed by one tile or more, by membership alone
 --     Merge       merging
+--     TrailingZeros   the largest block that starts or ends at a number, by its trailing zeros
+--     CutExamples   runs and stretches cut, computed
+--     Cuts        stretches cut into blocks, block by block
+--     Rest        the linear quadtree from a Morton number on
+--     RunLaws     the law of runs
 --     Laws        the laws of the theory, each with its whole statement
 pub mod Alignment
 pub mod Tiling
@@ -24,4 +29,9 @@ pub mod Linear
 pub mod Least
 pub mod Change
 pub mod Merge
+pub mod TrailingZeros
+pub mod CutExamples
+pub mod Cuts
+pub mod Rest
+pub mod RunLaws
 pub mod Laws

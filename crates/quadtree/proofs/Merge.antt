@@ -19,29 +19,29 @@ use Rattle.quadtree.proofs.Chains.{quadrant-stop}
 use Rattle.quadtree.proofs.Siblings.{Siblings, Four, NoFour, no-four-left, no-four-right}
 use Rattle.quadtree.proofs.ValidLaws.{tiling-quadtree, valid-tiling, valid-no-four}
 use Rattle.quadtree.proofs.Change.{Fits}
-use Rattle.quadtree.specs.Tiling.{tileRun, Between, Apart}
+use Rattle.quadtree.specs.Tiling.{equalTiles, Between, Apart}
 
-pub tileRun-length : (k a m c : ℕ) → length (tileRun k a m c) ≡ m
-unfolding tileRun
-tileRun-length k a zero c = refl
-tileRun-length k a (suc m) c = ap suc (tileRun-length k a m (c + 4 ^ k))
+pub equalTiles-length : (k a m c : ℕ) → length (equalTiles k a m c) ≡ m
+unfolding equalTiles
+equalTiles-length k a zero c = refl
+equalTiles-length k a (suc m) c = ap suc (equalTiles-length k a m (c + 4 ^ k))
 
--- such a run at the front of a tiling, and at its end
-pub tileRun-front : {f : ℕ → ℕ} {hi : ℕ} (k a m c e : ℕ) (r : List Tile) → e ≡ c + m * 4 ^ k → Tiling f hi c (tileRun k a m c ++ r) → Uniform f a c e × Tiling f hi e r
-unfolding tileRun
-tileRun-front k a zero c e r q t = (λ z l h. omega arith, let p : e ≡ c = omega arith in rw p t)
-tileRun-front k a (suc m) c e r q (next n t) = let p = tileRun-front k a m (c + 4 ^ k) e r (omega arith) t in (uniform-join (n .on .uniform) (p .0), p .1)
+-- equal tiles at the front of a tiling, and at its end
+pub equalTiles-front : {f : ℕ → ℕ} {hi : ℕ} (k a m c e : ℕ) (r : List Tile) → e ≡ c + m * 4 ^ k → Tiling f hi c (equalTiles k a m c ++ r) → Uniform f a c e × Tiling f hi e r
+unfolding equalTiles
+equalTiles-front k a zero c e r q t = (λ z l h. omega arith, let p : e ≡ c = omega arith in rw p t)
+equalTiles-front k a (suc m) c e r q (next n t) = let p = equalTiles-front k a m (c + 4 ^ k) e r (omega arith) t in (uniform-join (n .on .uniform) (p .0), p .1)
 
-pub tileRun-back : {f : ℕ → ℕ} {lo : ℕ} (k a m c e : ℕ) (h : List Tile) → e ≡ c + m * 4 ^ k → Tiling f e lo (h ++ tileRun k a m c) → Tiling f c lo h × Uniform f a c e
-unfolding tileRun
-tileRun-back {f} {lo} k a zero c e h q t = (let p : e ≡ c = omega arith in rw (append-nil, p) at t, λ z l g. omega arith)
-tileRun-back {f} {lo} k a (suc m) c e h q t =
+pub equalTiles-back : {f : ℕ → ℕ} {lo : ℕ} (k a m c e : ℕ) (h : List Tile) → e ≡ c + m * 4 ^ k → Tiling f e lo (h ++ equalTiles k a m c) → Tiling f c lo h × Uniform f a c e
+unfolding equalTiles
+equalTiles-back {f} {lo} k a zero c e h q t = (let p : e ≡ c = omega arith in rw (append-nil, p) at t, λ z l g. omega arith)
+equalTiles-back {f} {lo} k a (suc m) c e h q t =
     let s = tiling-split h t in
-    (s .0, tileRun-front {f = f} {hi = e} k a (suc m) c e [] q (rw append-nil (s .1)) .0)
+    (s .0, equalTiles-front {f = f} {hi = e} k a (suc m) c e [] q (rw append-nil (s .1)) .0)
 
 pub between-merge : {g : ℕ → ℕ} {n : ℕ} (h r : List Tile) (k a i j c p : ℕ) → i + j ≡ 3 → c ≡ p + i * 4 ^ k → Aligned (suc k) p →
-    Between g n (h ++ tileRun k a i p) (tileRun k a j (c + 4 ^ k) ++ r) (tile c k a) → Between g n h r (tile p (suc k) a)
-between-merge {g} {n} h r k a i j c p ij e m t = go (tileRun-back k a i p c h e (t .ahead)) (tileRun-front k a j (c + 4 ^ k) (p + 4 ^ suc k) r q (t .rest))
+    Between g n (h ++ equalTiles k a i p) (equalTiles k a j (c + 4 ^ k) ++ r) (tile c k a) → Between g n h r (tile p (suc k) a)
+between-merge {g} {n} h r k a i j c p ij e m t = go (equalTiles-back k a i p c h e (t .ahead)) (equalTiles-front k a j (c + 4 ^ k) (p + 4 ^ suc k) r q (t .rest))
   where
     q : p + 4 ^ suc k ≡ c + 4 ^ k + j * 4 ^ k
     q = let x : (i + j) * 4 ^ k ≡ 3 * 4 ^ k = ap (λ (y : ℕ). y * 4 ^ k) ij in omega arith
@@ -55,25 +55,25 @@ apart-tail x t a b g j p h r l m e ea eb = g j p (x ∷ h) r l m e (ap (λ (y : 
 -- t as the first, second, third and fourth of four siblings
 module _ (b : List Tile) (t : Tile) (nb : NoFour b) where
   first : (b : List Tile) → Apart [] b t → Four t b → ⊥
-  unfolding tileRun
+  unfolding equalTiles
   first [] g f = f
   first (u ∷ []) g f = f
   first (u ∷ v ∷ []) g f = f
   first (u ∷ v ∷ w ∷ r) g f = g 0 (t .corner) [] r (omega arith) (f .aligned) (omega arith) refl (rw (f .fourth, f .third, f .second))
 
   second : (x : Tile) (b : List Tile) → Apart (x ∷ []) b t → Four x (t ∷ b) → ⊥
-  unfolding tileRun
+  unfolding equalTiles
   second x [] g f = f
   second x (u ∷ []) g f = f
   second x (u ∷ v ∷ r) g f = g 1 (x .corner) [] r (omega arith) (rw (f .second) (f .aligned)) (rw (f .second) (omega arith)) (rw (f .second)) (rw (f .fourth, f .third))
 
   third : (x y : Tile) (b : List Tile) → Apart (x ∷ y ∷ []) b t → Four x (y ∷ t ∷ b) → ⊥
-  unfolding tileRun
+  unfolding equalTiles
   third x y [] g f = f
   third x y (u ∷ r) g f = g 2 (x .corner) [] r (omega arith) (rw (f .third, f .second) (f .aligned)) (rw (f .third, f .second) (omega arith)) (rw (f .third, f .second)) (rw (f .fourth))
 
   fourth : (x y z : Tile) (b : List Tile) → Apart (x ∷ y ∷ z ∷ []) b t → Siblings x y z t → ⊥
-  unfolding tileRun
+  unfolding equalTiles
   fourth x y z b g f = g 3 (x .corner) [] b (omega arith) (rw (f .fourth, f .third, f .second) (f .aligned)) (rw (f .fourth, f .third, f .second) (omega arith)) (rw (f .fourth, f .third, f .second)) refl
 
   ahead-four : (x : Tile) (a : List Tile) → (Four x a → ⊥) → Apart (x ∷ a) b t → Four x (a ++ t ∷ b) → ⊥
@@ -94,13 +94,13 @@ between-quadtree {g} {n} {a} {b} {t} h na nb q = tiling-quadtree n g (between-ti
 
 pub data Places : List Tile → Tile → List Tile → List Tile → Type 0 where
   insert : {a b : List Tile} {t : Tile} → Apart a b t → Places a t b (a ++ t ∷ b)
-  merge : {a b h r ts : List Tile} (k v i j c p : ℕ) → a ≡ h ++ tileRun k v i p → b ≡ tileRun k v j (c + 4 ^ k) ++ r →
+  merge : {a b h r ts : List Tile} (k v i j c p : ℕ) → a ≡ h ++ equalTiles k v i p → b ≡ equalTiles k v j (c + 4 ^ k) ++ r →
       i + j ≡ 3 → c ≡ p + i * 4 ^ k → Aligned (suc k) p → Places h (tile p (suc k) v) r ts → Places a (tile c k v) b ts
 
 pub places-quadtree : {g : ℕ → ℕ} {n : ℕ} {a b ts : List Tile} {t : Tile} → Places a t b ts → Between g n a b t → NoFour a → NoFour b → ts ≡ quadtree n g
 places-quadtree (insert q) w na nb = between-quadtree w na nb q
 places-quadtree {g} {n} (merge {h = h} {r = r} k v i j c p ea eb ij e m s) w na nb =
-    places-quadtree s (between-merge h r k v i j c p ij e m (rw (ea, eb) at w)) (no-four-left h (tileRun k v i p) (rw ea at na)) (no-four-right (tileRun k v j (c + 4 ^ k)) r (rw eb at nb))
+    places-quadtree s (between-merge h r k v i j c p ij e m (rw (ea, eb) at w)) (no-four-left h (equalTiles k v i p) (rw ea at na)) (no-four-right (equalTiles k v j (c + 4 ^ k)) r (rw eb at nb))
 
 -- a tile that fits into a valid list, merged and put there: the result is valid, shows the tile's account on it, and elsewhere what the list showed
 fits-between : {n : ℕ} {a b : List Tile} {t : Tile} → Valid n (a ++ b) → Fits n a b t → Between (paint (accountAt (a ++ b)) (t .corner) (stop t) (t .account)) n a b t

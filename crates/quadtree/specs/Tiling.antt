@@ -1,15 +1,21 @@
 -- Inner: tilings: lists of tiles that tile a stretch of a raster. Definitions only.
+--     Levels e l           blocks start and end at e up to the size l, and no larger one
 --     On f t               t is aligned, somebody's, and the raster f has its account on all of it
 --     Next f lo t          t is the next tile at or behind lo: what lies between is nobody's
 --     Tiling f hi lo ts    ts tiles the raster f from lo up to hi, by rising corner, with no overlap
---     tileRun k a m c      m tiles of size k and account a, one behind the other from the corner c on
+--     equalTiles k a m c   m equal tiles, of size k and account a, one behind the other from the corner c on
 --     Between g n a b t    the tiles of a, t and the tiles of b, in this order, tile the raster g of order n
 --     Apart a b t          t's three siblings do not all stand next to it between a and b
 use mathlib.Core.Path.{_≡_}
 use mathlib.Core.List.{List, [], _∷_, _++_}
 use Prim.Native.Nat.{ℕ, zero, suc, _+_, _-_, _*_, _^_, _≤_, _<_}
-use Rattle.tile.specs.Tile.{Tile, tile, stop}
+use Rattle.tile.specs.Tile.{Tile, tile, stop, highestOrder}
 use Rattle.quadtree.specs.Raster.{Aligned, Uniform}
+
+pub record Levels (e l : ℕ) : Type 0 where
+  pub few : l ≤ highestOrder
+  pub ends : Aligned l e
+  pub over : Aligned (suc l) e → ⊥
 
 pub record On (f : ℕ → ℕ) (t : Tile) : Type 0 where
   pub aligned : Aligned (t .size) (t .corner)
@@ -25,9 +31,9 @@ pub data Tiling (f : ℕ → ℕ) (hi : ℕ) : ℕ → List Tile → Type 0 wher
   none : {lo : ℕ} → lo ≤ hi → Uniform f 0 lo hi → Tiling f hi lo []
   next : {lo : ℕ} {t : Tile} {ts : List Tile} → Next f lo t → Tiling f hi (stop t) ts → Tiling f hi lo (t ∷ ts)
 
-unfoldable pub tileRun : ℕ → ℕ → ℕ → ℕ → List Tile
-tileRun k a zero c = []
-tileRun k a (suc m) c = tile c k a ∷ tileRun k a m (c + 4 ^ k)
+unfoldable pub equalTiles : ℕ → ℕ → ℕ → ℕ → List Tile
+equalTiles k a zero c = []
+equalTiles k a (suc m) c = tile c k a ∷ equalTiles k a m (c + 4 ^ k)
 
 pub record Between (g : ℕ → ℕ) (n : ℕ) (a b : List Tile) (t : Tile) : Type 0 where
   pub ahead : Tiling g (t .corner) 0 a
@@ -36,4 +42,4 @@ pub record Between (g : ℕ → ℕ) (n : ℕ) (a b : List Tile) (t : Tile) : Ty
 
 abbrev pub Apart : List Tile → List Tile → Tile → Type 0
 Apart a b t = (j p : ℕ) (h r : List Tile) → j ≤ 3 → Aligned (suc (t .size)) p → t .corner ≡ p + j * 4 ^ t .size → a ≡ h
-    ++ tileRun (t .size) (t .account) j p → b ≡ tileRun (t .size) (t .account) (3 - j) (stop t) ++ r → ⊥
+    ++ equalTiles (t .size) (t .account) j p → b ≡ equalTiles (t .size) (t .account) (3 - j) (stop t) ++ r → ⊥

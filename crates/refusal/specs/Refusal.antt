@@ -1,5 +1,5 @@
--- The refusal numbers (document 01, "Refusals by the place of the check"), under the name of the condition met.
--- Definitions only. `accepted` is no refusal. The comment is the table's own row.
+-- The refusal numbers (document 01, "Refusals by the place of the check"; from 51 on document 02), under the name of the
+-- condition met. Definitions only. `accepted` is no refusal. The comment is the table's own row.
 use Prim.Native.Nat.{ℕ}
 
 abbrev pub accepted : ℕ
@@ -53,7 +53,8 @@ scanFull = 23
 abbrev pub accountTooLarge : ℕ
 accountTooLarge = 24
 
--- the finished list after this pixel or claim has more tiles than there are slots; a file's count exceeds the slots
+-- the finished list after this pixel or claim has more tiles than there are slots; so has a combined list; a file's
+-- count exceeds the slots
 abbrev pub slotsExceeded : ℕ
 slotsExceeded = 25
 
@@ -88,3 +89,7 @@ trailingBytes = 42
 -- the roster is not the tiles'
 abbrev pub rosterWrong : ℕ
 rosterWrong = 43
+
+-- two maps of orders that differ
+abbrev pub ordersDiffer : ℕ
+ordersDiffer = 51

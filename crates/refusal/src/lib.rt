@@ -44,3 +44,5 @@ pub const FILE_CUT_SHORT: u32 = 41;
 pub const TRAILING_BYTES: u32 = 42;
 
 pub const ROSTER_WRONG: u32 = 43;
+
+pub const ORDERS_DIFFER: u32 = 51;

@@ -25,7 +25,7 @@ use Rattle.bed.specs.declared.Kind.the-variants.{Rows, Morton}
 use Rattle.bed.specs.Places.{placeOf, pixelAt}
 use Rattle.bed.specs.Bed.{bedOf, putPixel}
 use Rattle.bed.proofs.PlaceLaws.{area-sides, pixelAt-lt, placeOf-pixelAt, placeOf-last}
-use Rattle.list_push.specs.Merging.{Levels}
+use Rattle.quadtree.specs.Tiling.{Levels}
 use Rattle.scan_gap.specs.Gap.{Awaits}
 use Rattle.scan_feed.specs.Feeding.{AtPlace, Holds}
 use Rattle.scan_feed.specs.declared.Place.{Place}

@@ -1,7 +1,7 @@
 -- The levels of a pixel by its column and its row: the largest powers of two that divide the two, counted from 1, bound the block that ends with it.
 --     aligned-twos   where column and row, counted from 1, are multiples of 2 ^ j, a block of size j ends with the pixel
 --     levels-sides   the smaller count of trailing zeros of the two are the levels of the pixel
--- Not here: the levels by the Morton number (list_push, `levels-half`), and that a block gives such a column and row (bed, `column-twos`, `row-twos`).
+-- Not here: the levels by the Morton number (quadtree, `levels-half`), and that a block gives such a column and row (bed, `column-twos`, `row-twos`).
 use mathlib.Core.Path.{_≡_, _∙_, ap}
 use Prim.Native.Nat.{ℕ, zero, suc, _+_, _*_, _/_, _%_, _^_, min, _≤_, _<_}
 use native.Mathlib.Nat.{div-add-mod', pow-succ', min-eq-left, min-eq-right}
@@ -15,8 +15,8 @@ use Rattle.tile.specs.Tile.{highestOrder}
 use Rattle.quadtree.specs.Raster.{Aligned}
 use Rattle.quadtree.proofs.Alignment.{aligned-unit}
 use Rattle.bed.proofs.PlaceLaws.{Twos, column-twos, row-twos}
-use Rattle.list_push.specs.Merging.{Levels}
-use Rattle.list_push.proofs.TrailingZeros.{tz-divides, tz-odd}
+use Rattle.quadtree.specs.Tiling.{Levels}
+use Rattle.quadtree.proofs.TrailingZeros.{tz-divides, tz-odd}
 
 twos-zeros : (x j : ℕ) → j ≤ trailingZeros 32 x → Twos j x
 twos-zeros x j h = record { times = x / 2 ^ j; is = omega (arith, div-add-mod' x (2 ^ j), tz-divides 32 x j h) }

@@ -25,7 +25,7 @@ use Rattle.bed.specs.declared.Kind.the-variants.{Morton}
 use Rattle.bed.specs.declared.Scan.{Scan}
 use Rattle.bed.specs.Places.{placeOf, pixelAt}
 use Rattle.bed.specs.Bed as bed
-use Rattle.list_push.specs.Merging.{Levels}
+use Rattle.quadtree.specs.Tiling.{Levels}
 use Rattle.scan_gap.specs.Gap.{held, Fits, Low}
 use Rattle.scan_feed.specs.declared.Place.{Place}
 use Rattle.scan_feed.specs.declared.AfterPixel.{AfterPixel}

@@ -6,7 +6,7 @@ ghost use Rattle.morton.specs.Morton.{morton, sideBits};
 ghost use Rattle.tile.specs.Tile.{highestOrder, highestAccount};
 ghost use Rattle.bed.specs.Places.{pixelAt};
 ghost use Rattle.bed.specs.Bed.{feedPixels};
-ghost use Rattle.list_push.specs.Merging.{Levels};
+ghost use Rattle.quadtree.specs.Tiling.{Levels};
 ghost use Rattle.scan_gap.specs.Gap.{Fits, Placed};
 ghost use Rattle.scan_feed.specs.Shown.{shownBed};
 ghost use Rattle.scan_check.specs.Opened.{Opened};

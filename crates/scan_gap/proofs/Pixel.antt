@@ -24,7 +24,7 @@ use Rattle.quadtree.proofs.Shown.{paint-in, paint-out}
 use Rattle.quadtree.proofs.Siblings.{NoFour, no-four-left, no-four-right}
 use Rattle.quadtree.proofs.ValidLaws.{quadtree-tiling, quadtree-no-four, quadtree-cong}
 use Rattle.quadtree.specs.Tiling.{Between, Apart}
-use Rattle.quadtree.proofs.Merge.{tileRun-front, between-quadtree}
+use Rattle.quadtree.proofs.Merge.{equalTiles-front, between-quadtree}
 use Rattle.list_push.specs.Merging.{upTo, MergedInto}
 use Rattle.list_push.specs.declared.Top.{Top}
 use Rattle.scan_gap.specs.Gap.{held, Fits, Awaits, dotted, PlacedOn, Placed, Pushed, Low, High, Moved}
@@ -123,7 +123,7 @@ module _ {n : ℕ} {f : ℕ → ℕ} {z : ℕ} (s : List ℕ) (i b : ℕ) (withi
           let room = m .room in
           let o = over-end k z p j (3 - j) (omega arith) (omega arith) room e in
           let d : z + 1 - 4 ^ k + 4 ^ k ≡ z + 1 = omega arith in
-          let t = tileRun-front k a (3 - j) (z + 1) (p + 4 ^ suc k) r (o .stops) (rw (d, rw d at eb) at (grown .rest)) in
+          let t = equalTiles-front k a (3 - j) (z + 1) (p + 4 ^ suc k) r (o .stops) (rw (d, rw d at eb) at (grown .rest)) in
           let y = p + 4 ^ suc k - 1 in
           omega (arith, pos, o, t .0 y (omega (arith, o)) (omega (arith, o)), paint-out f z (z + 1) a y (λ c. omega (arith, o, c .1)), w .last (suc k) p al (o .starts) (omega (arith, o)) (tiling-le (t .1)))
       | no g ↦

@@ -5,7 +5,7 @@ ghost use mathlib.Core.List.{_++_};
 ghost use Prim.Native.Nat.{_+_, _-_, _^_, _<_, _≤_};
 ghost use lib.ListN.{length, getD, replicate};
 ghost use Rattle.tile.specs.Tile.{tile, tileOf, highestOrder, highestAccount};
-ghost use Rattle.list_push.specs.Merging.{Levels};
+ghost use Rattle.quadtree.specs.Tiling.{Levels};
 ghost use Rattle.scan_gap.specs.Gap.{held, Fits, Placed, Pushed, Low, Moved};
 
 // Where the two parts of a list end and start.

@@ -1,4 +1,4 @@
--- Room on both sides, then the run ahead and the run behind.
+-- Room on both sides, then the siblings ahead and those behind.
 use native.Mathlib.Omega.{arith}
 use borrow.Author.Tests.{not-true, not-false}
 use borrow.Author.Needs.{needs}
@@ -21,12 +21,12 @@ returns-2 : tie.Need-returns-2
 returns-2 c = beside-end (sided (c .before .before)) (c .if2 .taken)
 
 returns-3 : tie.Need-returns-3
-returns-3 c = beside-ahead (sided (c .before .before .before .before)) (c .before .is-run .ensures) (not-true _ (c .if3 .taken))
+returns-3 c = beside-ahead (sided (c .before .before .before .before)) (c .before .are-equal .ensures) (not-true _ (c .if3 .taken))
 
 returns-4 : tie.Need-returns-4
 returns-4 c =
-    beside-behind (sided (c .before .before .before .before .before)) (omega arith) (omega arith) (c .before .before .is-run .ensures) (not-false _
-    (c .before .if3 .left)) (c .is-run2 .ensures)
+    beside-behind (sided (c .before .before .before .before .before)) (omega arith) (omega arith) (c .before .before .are-equal .ensures) (not-false _
+    (c .before .if3 .left)) (c .are-equal2 .ensures)
 
 area-requires : tie.Need-area-requires
 area-requires c κs = omega (arith, c .before .pre .2 .size)
@@ -37,24 +37,24 @@ div-place c = omega (arith, c .area .ensures, area-pos (c .before .before .args 
 sub-after : tie.Need-sub-after
 sub-after c = omega (arith, room c)
 
-mul-is-run : tie.Need-mul-is-run
-mul-is-run c = omega (arith, room (c .before .before))
+mul-are-equal : tie.Need-mul-are-equal
+mul-are-equal c = omega (arith, room (c .before .before))
 
-sub-is-run : tie.Need-sub-is-run
-sub-is-run c = omega (arith, room (c .before .before))
+sub-are-equal : tie.Need-sub-are-equal
+sub-are-equal c = omega (arith, room (c .before .before))
 
-is-run-requires : tie.Need-is-run-requires
-is-run-requires c κs = (omega (arith, room (c .before .before)), c .before .before .before .before .pre .2 .size, room (c .before .before) .ahead)
+are-equal-requires : tie.Need-are-equal-requires
+are-equal-requires c κs = (omega (arith, room (c .before .before)), c .before .before .before .before .pre .2 .size, room (c .before .before) .ahead)
 
-add-is-run : tie.Need-add-is-run
-add-is-run c = omega (arith, room (c .before .before .before .before))
+add-are-equal : tie.Need-add-are-equal
+add-are-equal c = omega (arith, room (c .before .before .before .before))
 
-is-run-requires-2 : tie.Need-is-run-requires-2
-is-run-requires-2 c κs =
+are-equal-requires-2 : tie.Need-are-equal-requires-2
+are-equal-requires-2 c κs =
     let p = c .before .before .before .before .before .before .pre in
     (omega (arith, room (c .before .before .before .before)), p .2 .size, room (c .before .before .before .before) .behind)
 
 pub beside-spec : {M : Type 1} → statement M
 beside-spec =
-    tie.close (tie.spec area-requires div-place (λ c. search needs) sub-after returns (λ c. search needs) returns-2 mul-is-run sub-is-run
-    is-run-requires returns-3 add-is-run is-run-requires-2 returns-4)
+    tie.close (tie.spec area-requires div-place (λ c. search needs) sub-after returns (λ c. search needs) returns-2 mul-are-equal sub-are-equal
+    are-equal-requires returns-3 add-are-equal are-equal-requires-2 returns-4)

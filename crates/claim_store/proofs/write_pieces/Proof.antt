@@ -33,11 +33,11 @@ loop-holds c = (record { drawn = c .before .before .pre .0; end = omega (arith, 
 loop-again : tie.Need-loop-again Inv-loop μ-loop
 loop-again c =
     let l = c .before .before .before .before .before .before .before .before .before .before .loop in
-    let write-run2 = c .before .before .write-run2 in
-    let write-run = c .before .before .before .before .before .before .write-run in
+    let write-equal2 = c .before .before .write-equal2 in
+    let write-equal = c .before .before .before .before .before .before .write-equal in
     let area = c .before .before .before .before .before .before .before .before .area in
-    let q : length (write-run2 .last .0) ≡ length (l .slots) = omega (arith, write-run2 .kept, write-run .kept) in
-    (put-level (l .inv .0) (omega arith) (area .ensures) (write-run .ensures) (write-run2 .ensures) q, q ∙ l .inv .1)
+    let q : length (write-equal2 .last .0) ≡ length (l .slots) = omega (arith, write-equal2 .kept, write-equal .kept) in
+    (put-level (l .inv .0) (omega arith) (area .ensures) (write-equal .ensures) (write-equal2 .ensures) q, q ∙ l .inv .1)
 
 returns : tie.Need-returns Inv-loop μ-loop
 returns c =
@@ -65,8 +65,8 @@ cast-before c = omega (arith, turn c)
 sub-after : tie.Need-sub-after Inv-loop μ-loop
 sub-after c = omega (arith, turn c)
 
-write-run-requires : tie.Need-write-run-requires Inv-loop μ-loop
-write-run-requires c κs =
+write-equal-requires : tie.Need-write-equal-requires Inv-loop μ-loop
+write-equal-requires c κs =
     let l = c .before .before .before .loop in
     (omega (arith, turn (c .before) .drawn .fits), turn (c .before) .small, l .inv .0 .drawn .owner, turn (c .before) .ahead)
 
@@ -79,11 +79,11 @@ add-d c = omega (arith, turn (c .before .before .before .before))
 sub-right : tie.Need-sub-right Inv-loop μ-loop
 sub-right c = omega (arith, turn (c .before .before .before .before), c .before .before .before .before .before .before .loop .inv .0 .end)
 
-add-write-run : tie.Need-add-write-run Inv-loop μ-loop
-add-write-run c = omega (arith, turn (c .before .before .before .before .before))
+add-write-equal : tie.Need-add-write-equal Inv-loop μ-loop
+add-write-equal c = omega (arith, turn (c .before .before .before .before .before))
 
-write-run-requires-2 : tie.Need-write-run-requires-2 Inv-loop μ-loop
-write-run-requires-2 c κs =
+write-equal-requires-2 : tie.Need-write-equal-requires-2 Inv-loop μ-loop
+write-equal-requires-2 c κs =
     let l = c .before .before .before .before .before .before .before .loop in (
       omega (arith, turn (c .before .before .before .before .before), turn (c .before .before .before .before .before) .drawn .fits, l .inv .0 .end),
       turn (c .before .before .before .before .before) .small,
@@ -116,5 +116,5 @@ same-length c = simp length-set (omega arith)
 pub write-pieces-spec : {M : Type 1} → statement M
 write-pieces-spec =
     tie.close (tie.spec Inv-loop μ-loop add-right loop-holds (λ c. search needs) area-requires sub-place div-place cast-before sub-after
-    write-run-requires mul-d add-d sub-right add-write-run write-run-requires-2 add-left loop-less loop-again pack-requires mul-slots
+    write-equal-requires mul-d add-d sub-right add-write-equal write-equal-requires-2 add-left loop-less loop-again pack-requires mul-slots
     slice-write-slots same-length returns (λ c. search needs) returns-2)

@@ -1,5 +1,5 @@
 -- Half the trailing zeros: `levels-half`.
-use Rattle.list_push.proofs.TrailingZeros.{levels-half}
+use Rattle.quadtree.proofs.TrailingZeros.{levels-half}
 use native.Mathlib.Omega.{arith}
 use borrow.Author.Needs.{needs}
 use Rattle.scan_feed.proofs.morton_levels.Statement.{statement}

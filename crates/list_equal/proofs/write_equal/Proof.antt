@@ -6,14 +6,14 @@ use native.Mathlib.Omega.{arith}
 use lib.ListN.{length-set, length, take, drop}
 use borrow.Author.Needs.{needs}
 use Rattle.tile.specs.Tile.{wordOf}
-use Rattle.quadtree.specs.Tiling.{tileRun}
-use Rattle.list_run.proofs.RunSteps.{along-room, along-below, Writing, write-none, write-more, write-all}
-use Rattle.list_run.proofs.write_run.Statement.{statement}
-use Rattle.list_run.proofs.write_run.Tie as tie
+use Rattle.quadtree.specs.Tiling.{equalTiles}
+use Rattle.list_equal.proofs.Turns.{along-room, along-below, Writing, write-none, write-more, write-all}
+use Rattle.list_equal.proofs.write_equal.Statement.{statement}
+use Rattle.list_equal.proofs.write_equal.Tie as tie
 
 abbrev Inv-loop : tie.InvT-loop
 Inv-loop slots₀ at count corner size account area x₀ j₀ slots x j =
-    Writing size account (take at slots₀ ++ (map wordOf (tileRun size account count corner) ++ drop (at + count) slots₀)) slots at count corner j x
+    Writing size account (take at slots₀ ++ (map wordOf (equalTiles size account count corner) ++ drop (at + count) slots₀)) slots at count corner j x
     × (length slots ≡ length slots₀)
 
 abbrev μ-loop : tie.MeasureT-loop
@@ -36,7 +36,7 @@ loop-again c =
 returns : tie.Need-returns Inv-loop μ-loop
 returns c = write-all (c .before .loop .inv .0) (c .loop-test .left)
 
-pub write-run-spec : {M : Type 1} → statement M
-write-run-spec =
+pub write-equal-spec : {M : Type 1} → statement M
+write-equal-spec =
     tie.close (tie.spec Inv-loop μ-loop (λ c κs. search needs) loop-holds pack-requires (λ c. search needs) (λ c. search needs) (λ c. search needs)
     add-x (λ c. search needs) (λ c. search needs) loop-again (λ c. search needs) returns)

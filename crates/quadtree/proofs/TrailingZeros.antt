@@ -1,7 +1,8 @@
--- The trailing zeros of a number: the largest power of two that divides it, and so the largest block that ends at it.
+-- The trailing zeros of a number: the largest power of two that divides it, and so the largest block that starts or ends at it.
 --     tz-divides   each power of two up to the trailing zeros divides
 --     tz-odd       what lies above the zeros is odd
---     levels-half  blocks end at e up to the size of half its trailing zeros, and no larger one
+--     twice        a power of four as one of two
+--     levels-half  blocks start and end at e up to the size of half its trailing zeros, and no larger one
 use mathlib.Core.Path.{_≡_, _∙_, refl, ap, sym}
 use Prim.Native.Nat.{ℕ, zero, suc, _+_, _-_, _*_, _/_, _%_, _^_, _<_, _≤_}
 use native.Mathlib.Nat.{mul-one, div-one, pow-suc, pow-succ', div-div-eq-div-mul, mul-left-comm, mul-mod-left, mul-assoc, div-add-mod'}
@@ -9,9 +10,9 @@ use native.Mathlib.Omega.{arith}
 use lib.Pow.{pow-add, shl-shr}
 use lib.Count.{trailingZeros, under}
 use Rattle.tile.specs.Tile.{highestOrder}
 use Rattle.quadtree.specs.Raster.{Aligned}
 use Rattle.quadtree.proofs.Alignment.{size-le, aligned-zero, aligned-gap}
-use Rattle.list_push.specs.Merging.{Levels}
+use Rattle.quadtree.specs.Tiling.{Levels}
 
 tz-div : (d n : ℕ) → n / 2 ^ trailingZeros d n * 2 ^ trailingZeros d n ≡ n
 unfolding trailingZeros
@@ -41,7 +42,7 @@ tz-divides d n i h =
     let s : n ≡ n / 2 ^ t * 2 ^ (t - i) * 2 ^ i = sym (tz-div d n) ∙ ap (λ (x : ℕ). n / 2 ^ t * x) (ap (λ (x : ℕ). 2 ^ x) e ∙ pow-add 2 (t - i) i) ∙ sym (mul-assoc (n / 2 ^ t) (2 ^ (t - i)) (2 ^ i)) in
     ap (λ (x : ℕ). x % 2 ^ i) s ∙ mul-mod-left (n / 2 ^ t * 2 ^ (t - i)) (2 ^ i)
 
-twice : (n : ℕ) → 2 ^ (2 * n) ≡ 4 ^ n
+pub twice : (n : ℕ) → 2 ^ (2 * n) ≡ 4 ^ n
 twice zero = refl
 twice (suc n) = let e : 2 * suc n ≡ suc (suc (2 * n)) = omega arith in rw e (omega (arith, twice n))
 

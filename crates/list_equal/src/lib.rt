@@ -1,16 +1,16 @@
-// Runs: tiles of one size and account, one behind the other, compared with words of a list and written as words.
+// Equal tiles: of one size and account, one behind the other, compared with words of a list and written as words.
 ghost use mathlib.Core.Path.{_≡_};
 ghost use mathlib.Core.List.{_++_, map};
 ghost use Prim.Native.Nat.{_+_, _*_, _^_, _<_, _≤_};
 ghost use lib.ListN.{length, take, drop};
 ghost use Rattle.basics.specs.Test.{Test};
 ghost use Rattle.tile.specs.Tile.{tileOf, wordOf, highestOrder, highestAccount};
-ghost use Rattle.quadtree.specs.Tiling.{tileRun};
+ghost use Rattle.quadtree.specs.Tiling.{equalTiles};
 
-// Are the `count` words from `at` on the run of a size and an account from the corner on?
-pub fn is_run(list: &[u32], at: usize, count: usize, corner: u32, size: u32, account: u8) -> bool
+// Are the `count` words from `at` on the equal tiles of a size and an account from the corner on?
+pub fn are_equal(list: &[u32], at: usize, count: usize, corner: u32, size: u32, account: u8) -> bool
     requires { ⌜ (at + count ≤ length (now list)) × (size ≤ highestOrder) × (corner + count * 4 ^ size < 2 ^ 32) ⌝ }
-    ensures { λ r. ⌜ Test (take count (drop at (map tileOf (now (list .entry)))) ≡ tileRun size account count corner)
+    ensures { λ r. ⌜ Test (take count (drop at (map tileOf (now (list .entry)))) ≡ equalTiles size account count corner)
         r ⌝ }
 {
     let area = tile::area(size);
@@ -33,12 +33,12 @@ pub fn is_run(list: &[u32], at: usize, count: usize, corner: u32, size: u32, acc
     true
 }
 
-// Writes the run of `count` tiles of a size and an account from the corner on to the slots from `at` on.
-pub fn write_run(slots: &mut [u32], at: usize, count: usize, corner: u32, size: u32, account: u8)
+// Writes `count` equal tiles of a size and an account, from the corner on, to the slots from `at` on.
+pub fn write_equal(slots: &mut [u32], at: usize, count: usize, corner: u32, size: u32, account: u8)
     requires { ⌜ (at + count ≤ length (now slots)) × (size ≤ highestOrder) × (account ≤ highestAccount)
         × (corner + count * 4 ^ size ≤ 4 ^ highestOrder) ⌝ }
     ensures { λ r. ⌜ now (slots .exit) ≡ take at (now (slots .entry))
-        ++ (map wordOf (tileRun size account count corner) ++ drop (at + count) (now (slots .entry))) ⌝ }
+        ++ (map wordOf (equalTiles size account count corner) ++ drop (at + count) (now (slots .entry))) ⌝ }
 {
     let area = tile::area(size);
     let mut x = corner;

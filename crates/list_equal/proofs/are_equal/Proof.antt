@@ -4,9 +4,9 @@ use Prim.Native.Nat.{_-_}
 use native.Mathlib.Omega.{arith}
 use borrow.Author.Needs.{needs}
 use Rattle.tile.specs.Tile.{Tile}
-use Rattle.list_run.proofs.RunSteps.{along-room, Reading, read-none, read-more, read-other, read-all}
-use Rattle.list_run.proofs.is_run.Statement.{statement}
-use Rattle.list_run.proofs.is_run.Tie as tie
+use Rattle.list_equal.proofs.Turns.{along-room, Reading, read-none, read-more, read-other, read-all}
+use Rattle.list_equal.proofs.are_equal.Statement.{statement}
+use Rattle.list_equal.proofs.are_equal.Tie as tie
 
 abbrev Inv-loop : tie.InvT-loop
 Inv-loop list at count corner size account area x₀ j₀ x j = Reading size account list at count corner j x
@@ -52,8 +52,8 @@ loop-again c =
 returns-4 : tie.Need-returns-4 Inv-loop μ-loop
 returns-4 c = read-all (c .before .loop .inv) (c .loop-test .left)
 
-pub is-run-spec : {M : Type 1} → statement M
-is-run-spec =
+pub are-equal-spec : {M : Type 1} → statement M
+are-equal-spec =
     tie.close (tie.spec Inv-loop μ-loop (λ c κs. search needs) loop-holds (λ c. search needs) (λ c. search needs) (λ c. search needs)
     (λ c κs. search needs) returns (λ c κs. search needs) returns-2 (λ c κs. search needs) returns-3 add-x (λ c. search needs) (λ c. search needs)
     loop-again returns-4)

@@ -1,0 +1,36 @@
+-- Combine (document 02, CR 1, "Reserved zones"): a third list from two maps of one order. Definitions only.
+--     combinedList choice n t s u w      the linear quadtree of the pixel rule, of two maps of order n: the lists in the
+--                                        first t slots of s and in the first u slots of w
+--     combineRefusal ..                  1, 2, 11 to 16 of the first map, the same of the second, then 51, then 25
+--     combineOf choice n t s m u w out   the offered call, of a first map (order n, t, s) and a second one (order m, u,
+--                                        w): the third list goes to the slots `out`, with the unused ones 0
+use mathlib.Core.List.{List}
+use Prim.Native.Nat.{ℕ}
+use lib.Dec.{leb, eqb}
+use lib.ListN.{length}
+use Rattle.refusal.specs.Refusal.{accepted, ordersDiffer, slotsExceeded}
+use Rattle.refusal.specs.Checks.{must, orElse, unless, After}
+use Rattle.tile.specs.Tile.{Tile}
+use Rattle.tile.specs.Slots.{filled}
+use Rattle.quadtree.specs.Quadtree.{quadtree}
+use Rattle.list_check.specs.ListCheck.{listCheck}
+use Rattle.combine_rule.specs.declared.Choice.{Choice}
+use Rattle.combine_rule.specs.Rule.{combined}
+use Rattle.combine.specs.declared.Combined.{Combined}
+
+abbrev pub combinedList : Choice → ℕ → ℕ → List ℕ → ℕ → List ℕ → List Tile
+combinedList choice n t s u w = quadtree n (combined choice t s u w)
+
+unfoldable pub combineRefusal : Choice → ℕ → ℕ → List ℕ → ℕ → ℕ → List ℕ → List ℕ → ℕ
+combineRefusal choice n t s m u w out =
+    orElse (listCheck n t s)
+    (orElse (listCheck m u w)
+    (must (eqb n m) ordersDiffer
+    (must (leb (length (combinedList choice n t s u w)) (length out)) slotsExceeded accepted)))
+
+unfoldable pub combineOf : Choice → ℕ → ℕ → List ℕ → ℕ → ℕ → List ℕ → List ℕ → After Combined
+combineOf choice n t s m u w out =
+    let ts : List Tile = combinedList choice n t s u w in
+    unless (combineRefusal choice n t s m u w out)
+    (λ number. record { answer = record { number = number; tiles = 0 }; storage = out })
+    (record { answer = record { number = accepted; tiles = length ts }; storage = filled (length out) ts })

@@ -1,0 +1,4 @@
+-- A third list from two maps.
+pub mod Combine
+pub mod Maps
+pub mod Worked

@@ -1,0 +1,126 @@
+// A third list from two maps of one order, by a rule over their pixels: the runs of the combined map are counted first,
+// and written then.
+ghost use mathlib.Core.Path.{_≡_};
+ghost use mathlib.Core.List.{map};
+ghost use Prim.Native.Nat.{_≤_};
+ghost use lib.ListN.{length};
+ghost use lib.Seq.{sets};
+ghost use Rattle.refusal.specs.Checks.{Gives};
+ghost use Rattle.tile.specs.Tile.{wordOf};
+ghost use Rattle.combine.specs.declared.Combined.{Combined};
+ghost use Rattle.combine.specs.Combine.{combinedList, combineOf};
+ghost use Rattle.combine.specs.Maps.{Maps};
+use combine_rule::Choice;
+
+// The answer: the tile count of the third list.
+#[repr(C)]
+pub struct Combined {
+    pub number: u32,
+    pub tiles: usize,
+}
+
+// How many tiles the combined map has.
+fn count(
+    choice: Choice,
+    order: u32,
+    tiles1: usize,
+    slots1: &[u32],
+    tiles2: usize,
+    slots2: &[u32],
+) -> usize
+    requires { ⌜ Maps order tiles1 (now slots1) tiles2 (now slots2) ⌝ }
+    ensures { λ r. ⌜ r ≡ length (combinedList choice order tiles1 (now (slots1 .entry)) tiles2 (now (slots2 .entry))) ⌝ }
+{
+    let end = tile::area(order);
+    let mut z: u32 = 0;
+    let mut i: usize = 0;
+    let mut j: usize = 0;
+    let mut count: usize = 0;
+    while z < end {
+        let run = combine_walk::next_run(choice, end, tiles1, slots1, tiles2, slots2, i, j, z);
+        count += list_cut::count_run(z, run.stop, run.account);
+        z = run.stop;
+        i = run.first;
+        j = run.second;
+    }
+    count
+}
+
+// Writes the words of these tiles from the first slot on.
+fn write(
+    choice: Choice,
+    order: u32,
+    tiles1: usize,
+    slots1: &[u32],
+    tiles2: usize,
+    slots2: &[u32],
+    out: &mut [u32],
+)
+    requires { ⌜ Maps order tiles1 (now slots1) tiles2 (now slots2)
+        × (length (combinedList choice order tiles1 (now slots1) tiles2 (now slots2)) ≤ length (now out)) ⌝ }
+    ensures { λ r. ⌜ now (out .exit) ≡ sets (now (out .entry)) 0
+        (map wordOf (combinedList choice order tiles1 (now (slots1 .entry)) tiles2 (now (slots2 .entry)))) ⌝ }
+{
+    let end = tile::area(order);
+    let mut z: u32 = 0;
+    let mut i: usize = 0;
+    let mut j: usize = 0;
+    let mut at: usize = 0;
+    while z < end {
+        let run = combine_walk::next_run(choice, end, tiles1, slots1, tiles2, slots2, i, j, z);
+        at = list_cut::put_run(out, at, z, run.stop, run.account);
+        z = run.stop;
+        i = run.first;
+        j = run.second;
+    }
+}
+
+// The offered call: leaves the list of the combined map in the slots `out`, the rest of them 0, and answers its tile
+// count; refused, answers the first refusal and changes no slot.
+pub fn combine(
+    choice: Choice,
+    order1: u32,
+    tiles1: usize,
+    slots1: &[u32],
+    order2: u32,
+    tiles2: usize,
+    slots2: &[u32],
+    out: &mut [u32],
+) -> Combined
+    ensures { λ r. ⌜ Gives r (now (out .exit)) (combineOf choice order1 tiles1 (now (slots1 .entry))
+        order2 tiles2 (now (slots2 .entry)) (now (out .entry))) ⌝ }
+{
+    let listed1 = list_check::check(order1, tiles1, slots1);
+    if listed1 != refusal::ACCEPTED {
+        return Combined {
+            number: listed1,
+            tiles: 0,
+        };
+    }
+    let listed2 = list_check::check(order2, tiles2, slots2);
+    if listed2 != refusal::ACCEPTED {
+        return Combined {
+            number: listed2,
+            tiles: 0,
+        };
+    }
+    if order1 != order2 {
+        return Combined {
+            number: refusal::ORDERS_DIFFER,
+            tiles: 0,
+        };
+    }
+    let tiles = count(choice, order1, tiles1, slots1, tiles2, slots2);
+    if out.len() < tiles {
+        return Combined {
+            number: refusal::SLOTS_EXCEEDED,
+            tiles: 0,
+        };
+    }
+    write(choice, order1, tiles1, slots1, tiles2, slots2, out);
+    list_words::clear_from(out, tiles);
+    Combined {
+        number: refusal::ACCEPTED,
+        tiles,
+    }
+}

@@ -1,0 +1,3 @@
+-- Laws of the pixel rule.
+--     RuleCases   the rule, case by case
+pub mod RuleCases

@@ -1,0 +1,2 @@
+-- The pixel rule.
+pub mod Rule

@@ -1,0 +1,2 @@
+-- Two maps walked together.
+pub mod Walk
