@@ -113,7 +113,15 @@ pub fn next_run(
     let mut second = start.second;
     while stop < end {
         let more = next_step(
-            choice, end, tiles1, slots1, tiles2, slots2, first, second, stop,
+            choice,
+            end,
+            tiles1,
+            slots1,
+            tiles2,
+            slots2,
+            first,
+            second,
+            stop,
         );
         if more.account != account {
             return Step {

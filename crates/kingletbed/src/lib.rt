@@ -15,14 +15,18 @@ ghost use Rattle.part.specs.Part.{partOf};
 ghost use Rattle.rights.specs.Rights.{rightsOf};
 ghost use Rattle.claim.specs.declared.Claimed.{Claimed};
 ghost use Rattle.claim.specs.Claim.{claimOf};
+ghost use Rattle.combine.specs.declared.Combined.{Combined};
+ghost use Rattle.combine.specs.Combine.{combineOf};
 ghost use Rattle.mapfile_write.specs.declared.Written.{Written};
 ghost use Rattle.mapfile_write.specs.Writer.{writeOf};
 ghost use Rattle.mapfile_read.specs.declared.Reading.{Reading};
 ghost use Rattle.mapfile_read.specs.Reader.{readOf};
-ghost use Rattle.kingletbed.specs.Exports.{kindOf, kindNumber, freshNumbers, fedNumbers};
+ghost use Rattle.kingletbed.specs.Exports.{kindOf, kindNumber, choiceOf, freshNumbers, fedNumbers};
 use bed::Kind;
 use bed::Scan;
 use claim::Claimed;
+use combine::Combined;
+use combine_rule::Choice;
 use lookup::Found;
 use mapfile_read::Reading;
 use mapfile_write::Written;
@@ -70,6 +74,15 @@ fn kind_number(kind: Kind) -> u32
         Kind::Rows => 0,
         Kind::Morton => 1,
     }
+}
+
+fn choice_of(choice: u32) -> Choice
+    ensures { λ r. ⌜ r ≡ choiceOf choice ⌝ }
+{
+    if choice == 0 {
+        return Choice::Inside;
+    }
+    Choice::Outside
 }
 
 #[no_mangle]
@@ -223,6 +236,24 @@ pub extern "C" fn kb_claim(
     ensures { λ r. ⌜ Gives r (now (slots .exit)) (claimOf order tiles (now (slots .entry)) corner size account) ⌝ }
 {
     claim::claim(order, tiles, slots, corner, size, account)
+}
+
+#[no_mangle]
+pub extern "C" fn kb_combine(
+    choice: u32,
+    order1: u32,
+    tiles1: usize,
+    slots1: &[u32],
+    order2: u32,
+    tiles2: usize,
+    slots2: &[u32],
+    out: &mut [u32],
+) -> Combined
+    ensures { λ r. ⌜ Gives r (now (out .exit)) (combineOf (choiceOf choice) order1 tiles1 (now (slots1 .entry))
+        order2 tiles2 (now (slots2 .entry)) (now (out .entry))) ⌝ }
+{
+    let choice = choice_of(choice);
+    combine::combine(choice, order1, tiles1, slots1, order2, tiles2, slots2, out)
 }
 
 #[no_mangle]
