@@ -1,7 +1,8 @@
 -- Combine (document 02, CR 1, "Reserved zones"): a third list from two maps of one order. Definitions only.
 --     combinedList choice n t s u w      the linear quadtree of the pixel rule, of two maps of order n: the lists in the
 --                                        first t slots of s and in the first u slots of w
---     combineRefusal ..                  1, 2, 11 to 16 of the first map, the same of the second, then 51, then 25
+--     mapsCheck n t s m u w              1, 2, 11 to 16 of the first map, the same of the second, then 51
+--     combineRefusal ..                  these, then 25
 --     combineOf choice n t s m u w out   the offered call, of a first map (order n, t, s) and a second one (order m, u,
 --                                        w): the third list goes to the slots `out`, with the unused ones 0
 use mathlib.Core.List.{List}
@@ -21,12 +22,12 @@ use Rattle.combine.specs.declared.Combined.{Combined}
 abbrev pub combinedList : Choice → ℕ → ℕ → List ℕ → ℕ → List ℕ → List Tile
 combinedList choice n t s u w = quadtree n (combined choice t s u w)
 
+unfoldable pub mapsCheck : ℕ → ℕ → List ℕ → ℕ → ℕ → List ℕ → ℕ
+mapsCheck n t s m u w = orElse (listCheck n t s) (orElse (listCheck m u w) (must (eqb n m) ordersDiffer accepted))
+
 unfoldable pub combineRefusal : Choice → ℕ → ℕ → List ℕ → ℕ → ℕ → List ℕ → List ℕ → ℕ
-combineRefusal choice n t s m u w out =
-    orElse (listCheck n t s)
-    (orElse (listCheck m u w)
-    (must (eqb n m) ordersDiffer
-    (must (leb (length (combinedList choice n t s u w)) (length out)) slotsExceeded accepted)))
+combineRefusal choice n t s m u w out = orElse (mapsCheck n t s m u w)
+    (must (leb (length (combinedList choice n t s u w)) (length out)) slotsExceeded accepted)
 
 unfoldable pub combineOf : Choice → ℕ → ℕ → List ℕ → ℕ → ℕ → List ℕ → List ℕ → After Combined
 combineOf choice n t s m u w out =

@@ -8,7 +8,7 @@ ghost use lib.Seq.{sets};
 ghost use Rattle.refusal.specs.Checks.{Gives};
 ghost use Rattle.tile.specs.Tile.{wordOf};
 ghost use Rattle.combine.specs.declared.Combined.{Combined};
-ghost use Rattle.combine.specs.Combine.{combinedList, combineOf};
+ghost use Rattle.combine.specs.Combine.{combinedList, mapsCheck, combineOf};
 ghost use Rattle.combine.specs.Maps.{Maps};
 use combine_rule::Choice;
 
@@ -17,6 +17,31 @@ use combine_rule::Choice;
 pub struct Combined {
     pub number: u32,
     pub tiles: usize,
+}
+
+// The checks of the two maps, in their order: the first map's list, the second's, then 51.
+fn maps_check(
+    order1: u32,
+    tiles1: usize,
+    slots1: &[u32],
+    order2: u32,
+    tiles2: usize,
+    slots2: &[u32],
+) -> u32
+    ensures { λ r. ⌜ r ≡ mapsCheck order1 tiles1 (now (slots1 .entry)) order2 tiles2 (now (slots2 .entry)) ⌝ }
+{
+    let first = list_check::check(order1, tiles1, slots1);
+    if first != refusal::ACCEPTED {
+        return first;
+    }
+    let second = list_check::check(order2, tiles2, slots2);
+    if second != refusal::ACCEPTED {
+        return second;
+    }
+    if order1 != order2 {
+        return refusal::ORDERS_DIFFER;
+    }
+    refusal::ACCEPTED
 }
 
 // How many tiles the combined map has.
@@ -90,23 +115,10 @@ pub fn combine(
     ensures { λ r. ⌜ Gives r (now (out .exit)) (combineOf choice order1 tiles1 (now (slots1 .entry))
         order2 tiles2 (now (slots2 .entry)) (now (out .entry))) ⌝ }
 {
-    let listed1 = list_check::check(order1, tiles1, slots1);
-    if listed1 != refusal::ACCEPTED {
+    let checked = maps_check(order1, tiles1, slots1, order2, tiles2, slots2);
+    if checked != refusal::ACCEPTED {
         return Combined {
-            number: listed1,
-            tiles: 0,
-        };
-    }
-    let listed2 = list_check::check(order2, tiles2, slots2);
-    if listed2 != refusal::ACCEPTED {
-        return Combined {
-            number: listed2,
-            tiles: 0,
-        };
-    }
-    if order1 != order2 {
-        return Combined {
-            number: refusal::ORDERS_DIFFER,
+            number: checked,
             tiles: 0,
         };
     }
