@@ -25,7 +25,7 @@ loop-again c =
 returns : tie.Need-returns Inv-loop μ-loop
 returns c =
     let loop = c .before .before .before .before .before .before .loop in
-    piece-free (loop .inv) (c .before .before .before .before .before .loop-test .taken) _ refl _ (c .before .corner .ensures) (c .if2 .taken)
+    piece-free (loop .inv) (c .before .before .before .before .before .loop-test .taken) _ refl _ (c .before .corner .ensures) (omega arith)
 
 returns-2 : tie.Need-returns-2 Inv-loop μ-loop
 returns-2 c =
