@@ -68,7 +68,7 @@ extern "C" {
 
 /* A byte that is no account; and the numbers in which to hand over ones that may not fit: an account as a byte, any
    other as a word. What does not fit goes as the largest, which the call itself refuses (and takes as KB_MORTON where
-   it is a kind). */
+   it is a kind, as KB_OUTSIDE where it is a choice). */
 #define KB_NO_ACCOUNT 255
 #if KB_NO_ACCOUNT <= KB_HIGHEST_ACCOUNT
 #error "KB_NO_ACCOUNT is an account: kb_account_byte and kb_scan_shown need another way to say that there is none"
@@ -85,6 +85,10 @@ KB_MUST_USE static inline uint32_t kb_number_word(uint64_t number)
 /* Kinds of scan. Any other number is taken as KB_MORTON, and the record answered then has 1. */
 #define KB_ROWS 0
 #define KB_MORTON 1
+
+/* Choices of kb_combine. Any other number is taken as KB_OUTSIDE. */
+#define KB_INSIDE 0
+#define KB_OUTSIDE 1
 
 /* The numbers that calls answer. */
 enum kb_number {
@@ -104,7 +108,7 @@ enum kb_number {
     KB_TILE_UNSCANNED = 22,     /* a tile covers a pixel that is not scanned yet */
     KB_SCAN_FULL = 23,          /* a pixel is fed to a scan that has them all */
     KB_ACCOUNT_TOO_LARGE = 24,  /* the account fed or claimed is above 63 */
-    KB_SLOTS_EXCEEDED = 25,     /* the list after this pixel or claim, or the file's, has more tiles than slots lent */
+    KB_SLOTS_EXCEEDED = 25,     /* the list after this pixel, claim, read or combine has more tiles than slots lent */
     KB_BYTES_TOO_FEW = 26,      /* the bytes lent are fewer than the file takes */
 
     KB_POINT_OUTSIDE = 31,      /* the column or the row is not below 2^order */
@@ -114,7 +118,9 @@ enum kb_number {
 
     KB_FILE_CUT_SHORT = 41,     /* the bytes end before the item to be read */
     KB_TRAILING_BYTES = 42,     /* bytes follow the roster */
-    KB_ROSTER_WRONG = 43        /* the roster does not have each account of the tiles once, with the pixels it covers */
+    KB_ROSTER_WRONG = 43,       /* the roster does not have each account of the tiles once, with the pixels it covers */
+
+    KB_ORDERS_DIFFER = 51       /* the two maps have different orders */
 };
 
 /* The answers. kb_check and kb_decode answer the number alone, kb_tile_corner, kb_tile_size and kb_tile_account the
@@ -133,6 +139,7 @@ typedef struct { uint32_t number; uint8_t yes; } kb_rights_answer;
 typedef struct { uint32_t number; size_t tiles; } kb_claim_answer;
 typedef struct { uint32_t number; size_t length; } kb_write_answer;
 typedef struct { uint32_t number; uint32_t order; size_t tiles; } kb_read_answer;
+typedef struct { uint32_t number; size_t tiles; } kb_combine_answer;
 
 /* ---- Calls on a bed's numbers ---- */
 
@@ -253,6 +260,21 @@ KB_MUST_USE kb_write_answer kb_write(uint32_t order, size_t tiles, const uint32_
      storage   accepted, the slots hold the file's list, and 0 from its end on; refused, they are as they were */
 KB_MUST_USE kb_read_answer kb_read(const uint8_t *file, size_t file_length, uint32_t *slots, size_t slots_length);
 
+/* Makes a third map of two maps of one order: the first map's pixels where the second is somebody's (KB_INSIDE), or
+   those where the second is nobody's (KB_OUTSIDE); every other pixel is nobody's. With reserved zones as the second map
+   it tells what of a bed lies inside of them, or outside; whose a zone is does not matter. In terms of sets, inside is
+   the intersection of the first map with the second one's held ground, outside their difference. An unscanned pixel
+   counts as nobody's in both maps.
+     refuses   the list checks of the first map, the list checks of the second, KB_ORDERS_DIFFER, KB_SLOTS_EXCEEDED
+     answers   the third map's tile count, the only one that goes with `out`. It may be above those of the two maps
+               together; 4^order slots always suffice.
+     storage   accepted, `out` holds the list of the third map, and 0 from its end on; refused, it is as it was. The two
+               maps are only read, and may be one and the same; `out` is apart from both: no map is changed in place */
+KB_MUST_USE kb_combine_answer kb_combine(uint32_t choice,
+                                         uint32_t order1, size_t tiles1, const uint32_t *slots1, size_t slots1_length,
+                                         uint32_t order2, size_t tiles2, const uint32_t *slots2, size_t slots2_length,
+                                         uint32_t *out, size_t out_length);
+
 /* The same as kb_part, with the part as a pointer into your own slots; refused, it is the empty part at their start. */
 KB_MUST_USE static inline kb_part_tiles_answer kb_part_tiles(uint32_t order, size_t tiles,
                                                              const uint32_t *slots, size_t slots_length,
@@ -264,12 +286,13 @@ KB_MUST_USE static inline kb_part_tiles_answer kb_part_tiles(uint32_t order, siz
 }
 
 /* ---- The scan with its slots ----
-   Begin with `kb_scan scan = {0};` (in C++ `= {};`), an empty bed of order 0 without slots; then kb_scan_fresh or
-   kb_scan_read. Each function makes the call of its name on the scan's own numbers and slots, refuses what that call
-   refuses and brings the scan up to date; where the rest of an answer goes into the scan, it answers the number alone.
-   Numbers of 64 bits are taken, and none is cut: one that does not fit is refused as too large, but for a kind, which
-   is KB_MORTON as any number other than 0. Leave the fields and the slots to these functions. A copy of a kb_scan has
-   the same slots: once they change through one of the two, the other is stale and must not be used. */
+   Begin with `kb_scan scan = {0};` (in C++ `= {};`), an empty bed of order 0 without slots; then kb_scan_fresh,
+   kb_scan_read or kb_scan_combine. Each function makes the call of its name on the scan's own numbers and slots,
+   refuses what that call refuses and brings the scan up to date; where the rest of an answer goes into the scan, it
+   answers the number alone. Numbers of 64 bits are taken, and none is cut: one that does not fit is refused as too
+   large, but for a kind or a choice, which is KB_MORTON or KB_OUTSIDE as any number other than 0. Leave the fields and
+   the slots to these functions. A copy of a kb_scan has the same slots: once they change through one of the two, the
+   other is stale and must not be used. */
 typedef struct kb_scan {
     uint32_t kind, order, pixels;
     size_t tiles;
@@ -299,6 +322,24 @@ KB_MUST_USE static inline uint32_t kb_scan_read(kb_scan *scan, const uint8_t *fi
         *scan = whole;
     }
     return read.number;
+}
+
+/* Accepted, the scan is the third map, by rows and with every pixel, whatever the two maps have scanned; refused, it is
+   as it was, with the slots that it had. It may be the very `first` or `second`, and then has the slots handed in
+   instead of its own. Those are apart from the slots of both maps: never hand in the slots of one of them. */
+KB_MUST_USE static inline uint32_t kb_scan_combine(kb_scan *scan, uint64_t choice,
+                                                   const kb_scan *first, const kb_scan *second,
+                                                   uint32_t *slots, size_t slots_length)
+{
+    kb_combine_answer combined = kb_combine(kb_number_word(choice),
+                                            first->order, first->tiles, first->slots, first->slots_length,
+                                            second->order, second->tiles, second->slots, second->slots_length,
+                                            slots, slots_length);
+    if (combined.number == KB_ACCEPTED) { /* so that kb_extent accepts the order */
+        kb_scan whole = {KB_ROWS, first->order, kb_extent(first->order).pixels, combined.tiles, slots, slots_length};
+        *scan = whole;
+    }
+    return combined.number;
 }
 
 /* Stopped at a pixel, the scan has the pixels before it; `taken` of the answer says how many accounts that were. */
@@ -412,6 +453,7 @@ KB_MUST_USE static inline const char *kb_refusal_text(uint32_t number)
     case KB_FILE_CUT_SHORT: return "the file ends too early";
     case KB_TRAILING_BYTES: return "bytes follow the end of the file's roster";
     case KB_ROSTER_WRONG: return "the file's roster does not match its tiles";
+    case KB_ORDERS_DIFFER: return "the two maps have different orders";
     default: return "a number that this version does not know";
     }
 }

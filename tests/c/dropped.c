@@ -1,9 +1,9 @@
 /* Every call with its answer dropped: a warning each. */
 #include "kingletbed.h"
 
-void drop(kb_scan *scan, uint32_t *slots, uint8_t *bytes);
+void drop(kb_scan *scan, uint32_t *slots, uint32_t *out, uint8_t *bytes);
 
-void drop(kb_scan *scan, uint32_t *slots, uint8_t *bytes)
+void drop(kb_scan *scan, uint32_t *slots, uint32_t *out, uint8_t *bytes)
 {
     kb_account_byte(0);
     kb_number_word(0);
@@ -25,8 +25,10 @@ void drop(kb_scan *scan, uint32_t *slots, uint8_t *bytes)
     kb_claim(0, 0, slots, 1, 0, 0, 1);
     kb_write(0, 0, slots, 1, bytes, 1);
     kb_read(bytes, 1, slots, 1);
+    kb_combine(KB_INSIDE, 0, 0, slots, 1, 0, 0, slots, 1, out, 1);
     kb_scan_fresh(scan, KB_ROWS, 0, slots, 1);
     kb_scan_read(scan, bytes, 1, slots, 1);
+    kb_scan_combine(scan, KB_INSIDE, scan, scan, out, 1);
     kb_scan_feed(scan, bytes, 1);
     kb_scan_claim(scan, 0, 0, 1);
     kb_scan_check(scan);

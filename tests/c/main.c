@@ -25,5 +25,14 @@ int main(void)
     test_file();
     test_shown();
     test_many_claims();
+    test_combine();
+    test_combine_same();
+    test_combine_choices();
+    test_combine_refusals();
+    test_combine_damaged();
+    test_combine_slots();
+    test_scan_combine();
+    test_scan_combine_itself();
+    test_many_combined();
     return failures > 0;
 }

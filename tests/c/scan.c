@@ -3,16 +3,15 @@
 
 #include <string.h>
 
-/* Bed M of the rules: rows 5 5 0 0, 5 5 0 9, 9 0 9 9 and 0 0 9 9, in 4 tiles. */
 static const uint8_t bed_m[16] = {5, 5, 0, 0, 5, 5, 0, 9, 9, 0, 9, 9, 0, 0, 9, 9};
 
-static int same(const kb_scan *one, const kb_scan *other)
+int same(const kb_scan *one, const kb_scan *other)
 {
     return one->kind == other->kind && one->order == other->order && one->pixels == other->pixels
            && one->tiles == other->tiles && one->slots == other->slots && one->slots_length == other->slots_length;
 }
 
-static void scan_bed_m(kb_scan *scan, uint32_t *slots, size_t slots_length)
+void scan_bed_m(kb_scan *scan, uint32_t *slots, size_t slots_length)
 {
     CHECK(kb_scan_fresh(scan, KB_ROWS, 2, slots, slots_length) == KB_ACCEPTED);
     CHECK(kb_scan_feed(scan, bed_m, 16).number == KB_ACCEPTED);

@@ -15,6 +15,12 @@ void test_failed(const char *condition, const char *file, int line);
 #define NO_SCAN {0}
 #endif
 
+/* Have two scans the same fields? */
+int same(const kb_scan *one, const kb_scan *other);
+
+/* Scans bed M of the rules: order 2, rows 5 5 0 0, 5 5 0 9, 9 0 9 9 and 0 0 9 9, in 4 tiles. */
+void scan_bed_m(kb_scan *scan, uint32_t *slots, size_t slots_length);
+
 void test_numbers(void);
 void test_limits(void);
 void test_texts(void);
@@ -27,5 +33,14 @@ void test_wide(void);
 void test_file(void);
 void test_shown(void);
 void test_many_claims(void);
+void test_combine(void);
+void test_combine_same(void);
+void test_combine_choices(void);
+void test_combine_refusals(void);
+void test_combine_damaged(void);
+void test_combine_slots(void);
+void test_scan_combine(void);
+void test_scan_combine_itself(void);
+void test_many_combined(void);
 
 #endif
