@@ -1,5 +1,6 @@
 /* A host program for the library: scans a bed with some boards on it, claims a block, shows the bed on a panel, asks
-   who may place where, archives the map and reads it back, and is refused something.
+   who may place where and what lies in the reserved zones, archives the map and reads it back, and is refused
+   something.
 
        gcc -O2 -Iinclude examples/beds.c target/staticlib/libkingletbed.a -o target/beds
        target/beds [MAP FILE]        bed.map unless named; kbmap draws it */
@@ -125,6 +126,48 @@ static void ask(const kb_scan *scan, uint32_t account, uint32_t column, uint32_t
     printf("%s\n", right.yes ? "yes" : "no");
 }
 
+/* The reserved zones are a map of their own: two blocks of 16 by 16 pixels, where the head parks and where it changes
+   nozzles. Account 1 holds them there; any would do. */
+#define ZONE_SIZE 4
+
+static void reserve(kb_scan *zones, uint32_t column, uint32_t row)
+{
+    kb_block_answer block = kb_block(ORDER, column, row, ZONE_SIZE);
+    must(block.number, "a zone's block");
+    must(kb_scan_claim(zones, block.corner, block.size, 1), "a zone");
+}
+
+/* A line of the accounts on a map, each with its pixels. */
+static void holders(const kb_scan *scan, const char *where)
+{
+    uint32_t pixels[KB_HIGHEST_ACCOUNT + 1] = {0};
+    for (size_t i = 0; i < scan->tiles; i++)
+        pixels[kb_tile_account(scan->slots[i])] += kb_extent(kb_tile_size(scan->slots[i])).pixels;
+    printf("  %s, %zu tiles", where, scan->tiles);
+    const char *gap = ":";
+    for (int account = 1; account <= KB_HIGHEST_ACCOUNT; account++)
+        if (pixels[account] > 0) {
+            printf("%s %d on %u", gap, account, pixels[account]);
+            gap = ",";
+        }
+    printf("\n");
+}
+
+/* What of the bed lies inside the zones, and what outside: two further maps, each in slots of its own. */
+static void reserved(const kb_scan *bed)
+{
+    static uint32_t zone_slots[2], inside_slots[PIXELS], outside_slots[PIXELS];
+    kb_scan zones = {0}, inside = {0}, outside = {0};
+    must(kb_scan_fresh(&zones, KB_ROWS, ORDER, zone_slots, 2), "the fresh zones");
+    reserve(&zones, 0, 0);
+    reserve(&zones, 48, 48);
+    must(kb_scan_combine(&inside, KB_INSIDE, bed, &zones, inside_slots, PIXELS), "the bed inside the zones");
+    must(kb_scan_combine(&outside, KB_OUTSIDE, bed, &zones, outside_slots, PIXELS), "the bed outside the zones");
+    printf("Which accounts are on the reserved zones at (0, 0) and (48, 48), and on how many pixels?\n");
+    holders(&inside, "inside");
+    holders(&outside, "outside");
+}
+
 static void fail(const char *name)
 {
     perror(name);
@@ -173,6 +216,7 @@ int main(int argc, char **argv)
     ask(&scan, 5, 6, 6);
     ask(&scan, 12, 62, 2);
     ask(&scan, 51, 62, 2);
+    reserved(&scan);
     archive(&scan, argc > 1 ? argv[1] : "bed.map");
     printf("A claim for account 256: %s.\n", kb_refusal_text(kb_scan_claim(&scan, 0, 0, 256)));
     printf("A block at column %d: %s.\n", SIDE, kb_refusal_text(kb_block(ORDER, SIDE, 0, CLAIM_SIZE).number));
