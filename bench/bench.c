@@ -2,7 +2,7 @@
 
        bench/run [LOWEST ORDER [HIGHEST ORDER]]        6 and 10 unless given
 
-   Before anything is timed, every other way to build a list must give the library's list. */
+   Before anything is timed, every other way to build a list, and to combine two, must give the library's list. */
 #include "builds.h"
 #include "straight.h"
 
@@ -84,7 +84,7 @@ struct bench {
     uint32_t order;
     size_t pixels, tiles, room;
     uint8_t *rows, *morton, *raster, *file;
-    uint32_t *list, *slots, *other;
+    uint32_t *list, *slots, *other, *zones;
     struct linked *linked;
 };
 
@@ -236,6 +236,93 @@ static void calls(struct bench *b)
     cell(&ours, &straight, b->pixels);
 }
 
+typedef kb_combine_answer combine_call(uint32_t, uint32_t, size_t, const uint32_t *, size_t,
+                                       uint32_t, size_t, const uint32_t *, size_t, uint32_t *, size_t);
+
+/* The bed's list with that of the zones, to a list; returns its tile count. */
+static size_t combine_once(struct bench *b, combine_call *combine, uint32_t choice, size_t zones,
+                           uint32_t *out, size_t m)
+{
+    kb_combine_answer answer = combine(choice, b->order, b->tiles, b->list, b->tiles,
+                                       b->order, zones, b->zones, zones, out, m);
+    must(answer.number);
+    return answer.tiles;
+}
+
+/* One row of the table of combined maps: for each choice the tiles left, and the times. */
+static void combines(struct bench *b)
+{
+    struct timing ours, straight;
+    make_zones(b->order, b->raster);
+    size_t zones = bottom_up(b->order, b->raster, b->zones);
+    printf("| %zu ", zones);
+    for (uint32_t choice = KB_INSIDE; choice <= KB_OUTSIDE; choice++) {
+        size_t tiles = combine_once(b, kb_combine, choice, zones, b->slots, b->pixels), m = tiles + 40;
+        if (combine_once(b, straight_combine, choice, zones, b->other, b->pixels) != tiles
+            || memcmp(b->other, b->slots, b->pixels * sizeof *b->slots)) {
+            fprintf(stderr, "bench: straightforward C gives another combined list\n");
+            exit(1);
+        }
+        BOTH(ours, combine_once(b, kb_combine, choice, zones, b->slots, m),
+             straight, combine_once(b, straight_combine, choice, zones, b->slots, m));
+        printf("| %zu ", tiles);
+        cell(&ours, &straight, b->tiles + zones + tiles);
+    }
+}
+
+static void all_feeds(struct bench *b)
+{
+    printf("| %zu ", b->room);
+    feeds(b, KB_ROWS);
+    feeds(b, KB_MORTON);
+}
+
+/* The tables: what stands above each, and what makes a row of it, behind the order, the bed and its tiles. */
+static const struct table {
+    const char *name, *above;
+    void (*row)(struct bench *);
+} tables[] = {
+    {"feeds",
+     "Feeds: nanoseconds for each pixel, then the library's time divided by that of each other way. Every feed of the "
+     "library and of the plain C\nchecks the whole list and clears the slots past it; the other ways keep their list "
+     "between rows and check nothing.\n\n"
+     "| order | bed | tiles | slots lent | rows, at once | plain C | 001 | bottom-up | rows, row by row | plain C "
+     "| 001 | Morton, at once | plain C | stack | Morton, row by row | plain C | stack |\n"
+     "|---|---|---|---|---|---|---|---|---|---|---|---|---|---|---|---|---|\n",
+     all_feeds},
+    {"calls",
+     "\nOther calls: nanoseconds for each tile (decode: pixel; fresh: slot) × the library's time divided by that of "
+     "straightforward C.\nEvery call but read and fresh checks the whole list first. For the roster, straightforward C "
+     "keeps an array of totals; the library counts each account from the list.\n\n"
+     "| order | bed | tiles | check | lookup | part | rights | claim | write | read | decode | fresh |\n"
+     "|---|---|---|---|---|---|---|---|---|---|---|---|\n",
+     calls},
+    {"combine",
+     "\nCombine: the bed inside and outside of reserved zones, 8 large rectangles. Nanoseconds for each tile of both "
+     "maps and of the third\n× the library's time divided by that of straightforward C. Both check the two lists "
+     "first.\n\n"
+     "| order | bed | tiles | zones' tiles | tiles inside | inside | tiles outside | outside |\n"
+     "|---|---|---|---|---|---|---|---|\n",
+     combines},
+};
+
+static void print(const struct table *table, struct bench *b, uint32_t lowest, uint32_t highest)
+{
+    printf("%s", table->above);
+    for (uint32_t order = lowest; order <= highest; order++) {
+        b->linked = linked_new(order);
+        for (int kind = 0; kind < BED_KINDS; kind++) {
+            set_up(b, kind, order);
+            fprintf(stderr, "%s, order %u, %s\n", table->name, order, bed_names[kind]);
+            printf("| %u | %s | %zu ", order, bed_names[kind], b->tiles);
+            table->row(b);
+            printf("|\n");
+            fflush(stdout);
+        }
+        linked_free(b->linked);
+    }
+}
+
 int main(int argc, char **argv)
 {
     uint32_t lowest = argc > 1 ? (uint32_t)atoi(argv[1]) : 6;
@@ -250,39 +337,10 @@ int main(int argc, char **argv)
     b.list = malloc((most + 40) * sizeof *b.list);
     b.slots = malloc((most + 40) * sizeof *b.slots);
     b.other = malloc(most * sizeof *b.other);
-    if (!b.rows || !b.morton || !b.raster || !b.file || !b.list || !b.slots || !b.other)
+    b.zones = malloc(most * sizeof *b.zones);
+    if (!b.rows || !b.morton || !b.raster || !b.file || !b.list || !b.slots || !b.other || !b.zones)
         return 1;
-    printf("Feeds: nanoseconds for each pixel, then the library's time divided by that of each other way. Every feed of the library and "
-           "of the plain C\nchecks the whole list and clears the slots past it; the other ways keep their list between rows and check "
-           "nothing.\n\n");
-    printf("| order | bed | tiles | slots lent | rows, at once | plain C | 001 | bottom-up | rows, row by row | plain C | 001 "
-           "| Morton, at once | plain C | stack | Morton, row by row | plain C | stack |\n"
-           "|---|---|---|---|---|---|---|---|---|---|---|---|---|---|---|---|---|\n");
-    for (int pass = 0; pass < 2; pass++) {
-        if (pass == 1)
-            printf("\nOther calls: nanoseconds for each tile (decode: pixel; fresh: slot) × the library's time divided by that of "
-                   "straightforward C.\nEvery call but read and fresh checks the whole list first. For the roster, straightforward C keeps "
-                   "an array of totals; the library counts each account from the list.\n\n"
-                   "| order | bed | tiles | check | lookup | part | rights | claim | write | read | decode | fresh |\n"
-                   "|---|---|---|---|---|---|---|---|---|---|---|---|\n");
-        for (uint32_t order = lowest; order <= highest; order++) {
-            b.linked = linked_new(order);
-            for (int kind = 0; kind < BED_KINDS; kind++) {
-                set_up(&b, kind, order);
-                fprintf(stderr, "%s, order %u, %s\n", pass ? "calls" : "feeds", order, bed_names[kind]);
-                printf("| %u | %s | %zu ", order, bed_names[kind], b.tiles);
-                if (pass == 0) {
-                    printf("| %zu ", b.room);
-                    feeds(&b, KB_ROWS);
-                    feeds(&b, KB_MORTON);
-                } else {
-                    calls(&b);
-                }
-                printf("|\n");
-                fflush(stdout);
-            }
-            linked_free(b.linked);
-        }
-    }
+    for (size_t i = 0; i < sizeof tables / sizeof *tables; i++)
+        print(tables + i, &b, lowest, highest);
     return 0;
 }

@@ -62,6 +62,19 @@ static uint32_t random_below(uint64_t *state, uint32_t bound)
     return (uint32_t)((*state >> 33) % bound);
 }
 
+/* Puts rectangles on a bed, each up to a share of the bed wide and high. */
+static void put_boards(uint64_t *state, int boards, uint32_t share, uint32_t order, uint8_t *raster)
+{
+    uint32_t side = 1u << order;
+    for (int board = 0; board < boards; board++) {
+        uint32_t width = 1 + random_below(state, side / share), height = 1 + random_below(state, side / share);
+        uint32_t column = random_below(state, side - width), row = random_below(state, side - height);
+        uint8_t account = (uint8_t)(1 + random_below(state, 63));
+        for (uint32_t y = row; y < row + height; y++)
+            memset(raster + ((size_t)y << order) + column, account, width);
+    }
+}
+
 void make_bed(int kind, uint32_t order, uint8_t *raster)
 {
     uint64_t state = 20 + order;
@@ -71,12 +84,13 @@ void make_bed(int kind, uint32_t order, uint8_t *raster)
             uint8_t *at = raster + ((size_t)row << order) + column;
             *at = kind == 1 ? (uint8_t)random_below(&state, 64) : kind == 2 ? (row + column) % 2 * 9 : kind == 3 ? 63 : 0;
         }
-    /* Boards: 24 rectangles, each up to a quarter of the bed wide and high. */
-    for (int board = 0; kind == 0 && board < 24; board++) {
-        uint32_t width = 1 + random_below(&state, side / 4), height = 1 + random_below(&state, side / 4);
-        uint32_t column = random_below(&state, side - width), row = random_below(&state, side - height);
-        uint8_t account = (uint8_t)(1 + random_below(&state, 63));
-        for (uint32_t y = row; y < row + height; y++)
-            memset(raster + ((size_t)y << order) + column, account, width);
-    }
+    if (kind == 0)
+        put_boards(&state, 24, 4, order, raster);
+}
+
+void make_zones(uint32_t order, uint8_t *raster)
+{
+    uint64_t state = 120 + order;
+    memset(raster, 0, area(order));
+    put_boards(&state, 8, 2, order, raster);
 }

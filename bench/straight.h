@@ -21,6 +21,10 @@ kb_claim_answer straight_claim(uint32_t order, size_t tiles, uint32_t *slots, si
 kb_write_answer straight_write(uint32_t order, size_t tiles, const uint32_t *slots, size_t slots_length,
                                uint8_t *file, size_t file_length);
 kb_read_answer straight_read(const uint8_t *file, size_t file_length, uint32_t *slots, size_t slots_length);
+kb_combine_answer straight_combine(uint32_t choice,
+                                   uint32_t order1, size_t tiles1, const uint32_t *slots1, size_t slots1_length,
+                                   uint32_t order2, size_t tiles2, const uint32_t *slots2, size_t slots2_length,
+                                   uint32_t *out, size_t out_length);
 
 /* Used by more than one of the files here. */
 uint32_t straight_morton(uint32_t column, uint32_t row);
