@@ -1,6 +1,6 @@
 //! The bed: what it holds, how it is made and how it is changed.
 
-use crate::{raw, Account, Block, Kind, Refusal, Stopped, Tile, Tiles};
+use crate::{raw, Account, Block, Choice, Kind, Refusal, Stopped, Tile, Tiles};
 use core::fmt;
 
 /// A bed map together with the slots that it is kept in, by value or by borrow. It cannot go stale: while a bed lives
@@ -13,8 +13,9 @@ use core::fmt;
 ///
 /// Where the making of a bed is refused, slots handed over by value are gone; lent by `&mut` they are as they were.
 ///
-/// A bed is made by [`fresh`](Bed::fresh) and filled by [`feed`](Bed::feed), [`read`](Bed::read) from a file, or made
-/// [`from_slots`](Bed::from_slots) that have its list already. The examples use this bed of order 2, with these tiles:
+/// A bed is made by [`fresh`](Bed::fresh) and filled by [`feed`](Bed::feed), [`read`](Bed::read) from a file, made of
+/// two others by [`combine`](Bed::combine), or made [`from_slots`](Bed::from_slots) that have its list already. The
+/// examples use this bed of order 2, with these tiles:
 ///
 /// ```text
 /// 5 5 0 0        corner  0  size 1  account 5    word    69
@@ -108,6 +109,37 @@ impl<S: AsRef<[u32]> + AsMut<[u32]>> Bed<S> {
         let answer = raw::read(file, slots.as_mut());
         Refusal::outcome(answer.number)?;
         Ok(Bed { kind: Kind::Rows, order: answer.order, pixels: pixels_of(answer.order), tiles: answer.tiles, slots })
+    }
+
+    /// Makes a third bed of two of one order: the first's pixels where the second is somebody's, or where it is
+    /// nobody's. A pixel that is not scanned counts as nobody's in both. The slots then hold the third bed's list, and
+    /// 0 behind it. Like a bed read from a file it is by rows, with every pixel scanned.
+    ///
+    /// ```
+    /// use kingletbed::{Bed, Choice, Refusal};
+    /// let bed = Bed::from_slots(2, 4, [69, 7177, 8201, 12361])?;
+    /// let zones = Bed::from_slots(2, 2, [67, 12355])?; // the blocks NW and SE
+    /// let inside = Bed::combine(Choice::Inside, &bed, &zones, [0; 16])?;
+    /// assert_eq!(inside.words(), [69, 12361]);
+    /// assert!(inside.is_scanned());
+    /// let outside = Bed::combine(Choice::Outside, &bed, &zones, [0; 16])?;
+    /// assert_eq!(outside.words(), [7177, 8201]);
+    ///
+    /// let larger = Bed::from_slots(3, 2, [67, 12355])?;
+    /// assert_eq!(Bed::combine(Choice::Inside, &bed, &larger, [0; 16]), Err(Refusal::OrdersDiffer));
+    /// # Ok::<(), kingletbed::Refusal>(())
+    /// ```
+    pub fn combine<A: AsRef<[u32]>, B: AsRef<[u32]>>(
+        choice: Choice,
+        first: &Bed<A>,
+        second: &Bed<B>,
+        mut slots: S,
+    ) -> Result<Bed<S>, Refusal> {
+        let (order, words1, words2) = (first.order, first.slots(), second.slots());
+        let (choice, out) = (choice.number(), slots.as_mut());
+        let answer = raw::combine(choice, order, first.tiles, words1, second.order, second.tiles, words2, out);
+        Refusal::outcome(answer.number)?;
+        Ok(Bed { kind: Kind::Rows, order, pixels: pixels_of(order), tiles: answer.tiles, slots })
     }
 
     /// Hands over the accounts of the next pixels, any number of them. The slots then hold the list of all pixels so

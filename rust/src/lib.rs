@@ -3,7 +3,8 @@
 //! A bed of order n has 2^n columns by 2^n rows of pixels, n from 0 to 10. Each pixel has an account from 0 to 63; 0 is
 //! nobody's. A [`Bed`] has its slots, by value or by borrow, and in them a word for each of its [`Tile`]s: the largest
 //! blocks of one account, by rising Morton number. It is filled from account bytes, by rows or in Morton order, read
-//! from a file, or made of slots that have a list already.
+//! from a file, made of slots that have a list already, or combined of two beds: the first's pixels inside the second's
+//! held ground, or outside it.
 //!
 //! ```
 //! use kingletbed::{Account, Bed, Block, Kind, Pixel};
@@ -38,6 +39,7 @@ mod account;
 mod ask;
 mod bed;
 mod block;
+mod choice;
 #[allow(unsafe_code)]
 pub mod raw;
 mod refusal;
@@ -47,6 +49,7 @@ mod tile;
 pub use account::Account;
 pub use bed::Bed;
 pub use block::{Block, Pixel};
+pub use choice::Choice;
 pub use refusal::Refusal;
 pub use scan::{Kind, Stopped};
 pub use tile::{Shown, Tile, Tiles};

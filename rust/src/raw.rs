@@ -20,7 +20,7 @@
 
 mod answers;
 
-pub use answers::{Around, Claimed, Extent, Fed, Found, Fresh, Morton, Part, Point, Reading, Right, Written};
+pub use answers::{Around, Claimed, Combined, Extent, Fed, Found, Fresh, Morton, Part, Point, Reading, Right, Written};
 
 #[rustfmt::skip]
 extern "C" {
@@ -36,6 +36,9 @@ extern "C" {
                  column: u32, row: u32, account: u8) -> Right;
     fn kb_claim(order: u32, tiles: usize, slots: *mut u32, slots_length: usize,
                 corner: u32, size: u32, account: u8) -> Claimed;
+    fn kb_combine(choice: u32, order1: u32, tiles1: usize, slots1: *const u32, slots1_length: usize,
+                  order2: u32, tiles2: usize, slots2: *const u32, slots2_length: usize,
+                  out: *mut u32, out_length: usize) -> Combined;
     fn kb_write(order: u32, tiles: usize, slots: *const u32, slots_length: usize,
                 file: *mut u8, file_length: usize) -> Written;
     fn kb_read(file: *const u8, file_length: usize, slots: *mut u32, slots_length: usize) -> Reading;
@@ -147,6 +150,35 @@ pub fn rights(order: u32, tiles: usize, slots: &[u32], column: u32, row: u32, ac
 #[must_use]
 pub fn claim(order: u32, tiles: usize, slots: &mut [u32], corner: u32, size: u32, account: u8) -> Claimed {
     unsafe { kb_claim(order, tiles, slots.as_mut_ptr(), slots.len(), corner, size, account) }
+}
+
+/// `kb_combine`. Makes a third map of two: by choice 0 the first map's pixels where the second is somebody's, by any
+/// other those where it is nobody's.
+///
+/// ```
+/// use kingletbed::raw;
+/// let (mut inside, mut outside) = ([9; 4], [9; 4]);
+/// let combined = raw::combine(0, 1, 1, &[71], 1, 1, &[3075], &mut inside);
+/// assert_eq!((combined.number, combined.tiles, inside), (0, 1, [3079, 0, 0, 0]));
+/// let combined = raw::combine(1, 1, 1, &[71], 1, 1, &[3075], &mut outside);
+/// assert_eq!((combined.number, combined.tiles, outside), (0, 3, [7, 1031, 2055, 0]));
+/// ```
+#[must_use]
+#[allow(clippy::too_many_arguments)]
+pub fn combine(
+    choice: u32,
+    order1: u32,
+    tiles1: usize,
+    slots1: &[u32],
+    order2: u32,
+    tiles2: usize,
+    slots2: &[u32],
+    out: &mut [u32],
+) -> Combined {
+    let (one, two, third) = (slots1.as_ptr(), slots2.as_ptr(), out.as_mut_ptr());
+    unsafe {
+        kb_combine(choice, order1, tiles1, one, slots1.len(), order2, tiles2, two, slots2.len(), third, out.len())
+    }
 }
 
 /// `kb_write`. Writes a map as a file.
@@ -280,6 +312,10 @@ mod tests {
             assert_eq!(kb_rights(0, 0, null_mut(), 0, 0, 0, 8), Right { number: 0, yes: 1 });
             assert_eq!(kb_claim(0, 0, null_mut(), 0, 0, 0, 8), Claimed { number: 25, tiles: 0 });
             assert_eq!(kb_claim(0, 0, null_mut(), 0, 0, 0, 0), Claimed { number: 0, tiles: 0 });
+            let combined = |number| Combined { number, tiles: 0 };
+            assert_eq!(kb_combine(0, 10, 0, null_mut(), 0, 10, 0, null_mut(), 0, null_mut(), 0), combined(0));
+            assert_eq!(kb_combine(0, 10, 0, null_mut(), 0, 10, 1, null_mut(), 0, null_mut(), 0), combined(2));
+            assert_eq!(kb_combine(1, 0, 1, [7].as_ptr(), 1, 0, 0, null_mut(), 0, null_mut(), 0), combined(25));
             assert_eq!(kb_write(0, 0, null_mut(), 0, null_mut(), 0), Written { number: 26, length: 0 });
             assert_eq!(kb_read(null_mut(), 0, null_mut(), 0), Reading { number: 41, order: 0, tiles: 0 });
             assert_eq!(

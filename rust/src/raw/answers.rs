@@ -77,6 +77,16 @@ pub struct Claimed {
     pub tiles: usize,
 }
 
+/// `kb_combine_answer`.
+#[repr(C)]
+#[derive(Clone, Copy, Debug, PartialEq, Eq)]
+pub struct Combined {
+    /// 0, or the number of the first check broken.
+    pub number: u32,
+    /// The third map's tile count.
+    pub tiles: usize,
+}
+
 /// `kb_write_answer`.
 #[repr(C)]
 #[derive(Clone, Copy, Debug, PartialEq, Eq)]
