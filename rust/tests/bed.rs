@@ -1,12 +1,15 @@
 //! What a bed promises beyond the comparison: it cannot go stale, any slots will do, and slots that lie do no harm.
 
-use kingletbed::{raw, Account, Bed, Block, Kind, Pixel, Refusal};
+use kingletbed::{raw, Account, Bed, Block, Choice, Kind, Pixel, Refusal};
 use std::cell::Cell;
 use std::fmt::Debug;
 
 /// Bed M, and its list.
 const M: [u8; 16] = [5, 5, 0, 0, 5, 5, 0, 9, 9, 0, 9, 9, 0, 0, 9, 9];
 const M_WORDS: [u32; 4] = [69, 7177, 8201, 12361];
+
+/// The blocks NW and SE, account 3's.
+const ZONES: [u32; 2] = [67, 12355];
 
 /// A claim whose answer nobody looks at but for its refusal: the next question is answered from the list that it left.
 #[test]
@@ -69,6 +72,60 @@ fn slots_of_any_kind() -> Result<(), Refusal> {
     // The slots are free again when the bed has ended.
     lent[0] = 0;
     assert_eq!(Bed::from_slots(2, 4, lent), Err(Refusal::AccountZero));
+    Ok(())
+}
+
+/// A third bed is by rows and wholly scanned, whatever the two are; what they have not scanned counts as nobody's.
+#[test]
+fn third_beds() -> Result<(), Refusal> {
+    let mut first = Bed::fresh(Kind::Morton, 2, [0; 16])?;
+    first.feed(&[5, 5, 5, 5, 9])?;
+    let mut second = Bed::fresh(Kind::Rows, 2, vec![0; 16])?;
+    second.feed(&[0, 3, 3])?;
+    let inside = Bed::combine(Choice::Inside, &first, &second, vec![7; 16])?;
+    assert_eq!((inside.kind(), inside.order(), inside.scanned(), inside.is_scanned()), (Kind::Rows, 2, 16, true));
+    assert_eq!((inside.words(), &inside.slots()[2..]), (&[1029, 4105][..], &[0; 14][..]));
+    let mut outside = Bed::combine(Choice::Outside, &first, &second, [7; 4])?;
+    assert_eq!((outside.kind(), outside.scanned(), outside.slots()), (Kind::Rows, 16, &[5, 2053, 3077, 0][..]));
+    // The third is a bed like any other, and the two go on as they were.
+    outside.claim(Block { corner: 1, size: 0 }, Account(5))?;
+    assert_eq!((outside.words(), inside.words().len()), (&[69][..], 2));
+    first.feed(&[9, 9, 9])?;
+    assert_eq!((first.scanned(), second.scanned(), first.words()), (8, 3, &[69, 4169][..]));
+    Ok(())
+}
+
+#[test]
+fn third_beds_of_any_slots() -> Result<(), Refusal> {
+    let (bed, zones) = (Bed::from_slots(2, 4, M_WORDS)?, Bed::from_slots(2, 2, &ZONES[..])?);
+    let inside = Bed::from_slots(2, 2, [69, 12361])?;
+    let (mut lent, mut list) = ([7; 2], vec![7; 9]);
+    assert_eq!(Bed::combine(Choice::Inside, &bed, &zones, &mut lent)?, inside);
+    assert_eq!(Bed::combine(Choice::Inside, &bed, &zones, &mut list[..])?, inside);
+    assert_eq!(Bed::combine(Choice::Inside, &bed.view(), &zones, vec![7; 9])?, inside);
+    assert_eq!(Bed::combine(Choice::Inside, &bed, &zones.view(), vec![7; 9].into_boxed_slice())?, inside);
+    assert_eq!((lent, list), ([69, 12361], vec![69, 12361, 0, 0, 0, 0, 0, 0, 0]));
+    // A bed inside itself is itself, and outside itself nothing.
+    assert_eq!(Bed::combine(Choice::Inside, &bed, &bed, [7; 4])?, bed);
+    assert_eq!(Bed::combine(Choice::Outside, &bed, &bed, [7; 4])?.slots(), [0; 4]);
+    assert_eq!(Bed::combine(Choice::Outside, &bed, &bed, [])?.words(), []);
+    Ok(())
+}
+
+/// Slots that were lent to a refused combining are as they were.
+#[test]
+fn refused_third_beds() -> Result<(), Refusal> {
+    let (bed, zones) = (Bed::from_slots(2, 4, M_WORDS)?, Bed::from_slots(2, 2, ZONES)?);
+    let (larger, empty) = (Bed::from_slots(3, 2, ZONES)?, Bed::from_slots(1, 0, [])?);
+    let mut slots = [7, 8];
+    for (choice, words) in [(Choice::Inside, [69, 12361]), (Choice::Outside, [7177, 8201])] {
+        assert_eq!(Bed::combine(choice, &bed, &zones, &mut slots[..1]), Err(Refusal::SlotsExceeded));
+        assert_eq!(Bed::combine(choice, &bed, &larger, &mut slots), Err(Refusal::OrdersDiffer));
+        assert_eq!(Bed::combine(choice, &larger, &bed, &mut slots), Err(Refusal::OrdersDiffer));
+        assert_eq!(Bed::combine(choice, &bed, &empty, &mut slots), Err(Refusal::OrdersDiffer));
+        assert_eq!(slots, [7, 8]);
+        assert_eq!(Bed::combine(choice, &bed, &zones, slots)?.words(), words);
+    }
     Ok(())
 }
 
@@ -149,6 +206,9 @@ fn ask(bed: &mut Bed<Turning>, seed: usize, counts: &mut [usize; 2]) {
     answered(bed.feed(&[9, 9]), counts);
     answered(bed.claim(block, Account(7)), counts);
     answered(bed.release(block), counts);
+    let choice = if seed % 2 == 0 { Choice::Inside } else { Choice::Outside };
+    answered(Bed::combine(choice, bed, &bed.view(), Turning::new(seed)), counts);
+    answered(Bed::combine(choice, bed, bed, [0; 16]), counts);
     assert!(bed.words().len() <= 16 && bed.tiles().all(|tile| tile.size() < 16) && bed.file_room() <= 6 + 9 * 16);
     assert!(!format!("{bed:?} {:?} {}", bed.view(), *bed == bed.view()).is_empty());
 }

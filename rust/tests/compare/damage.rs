@@ -1,5 +1,6 @@
 //! Lists and files with something wrong in them, and every call on them.
 
+use crate::combine::{garbage, CHOICES};
 use crate::pair::{At, Count};
 use crate::plain::{area, file as plain_file, Record, Tile};
 use crate::random::{palette, Built, Random};
@@ -13,6 +14,25 @@ struct Bad {
 }
 
 impl Bad {
+    /// A list of a bed of an order that was damaged once or twice, or not at all.
+    fn random(random: &mut Random, order: u32) -> Bad {
+        let splits = random.between(2, 7);
+        let accounts = palette(random);
+        let mut words = Built::random(random, order, &accounts, splits).words;
+        for _ in 0..random.below(3) {
+            list(random, &mut words, order);
+        }
+        let mut bad = Bad { order, tiles: words.len(), slots: words };
+        bad.slots.extend((0..random.below(4)).map(|_| 0x3fff_ffff));
+        match random.below(12) {
+            0 => bad.order = random.pick(&[0, 1, 3, 10, 11, 255, 256, 257, u32::MAX]),
+            1 => bad.tiles = bad.slots.len() + random.pick(&[0, 1, 2, usize::MAX / 2 - 100]),
+            2 => bad.tiles = random.below(bad.slots.len() + 1),
+            _ => {}
+        }
+        bad
+    }
+
     fn at(&self) -> At<'_> {
         (self.order, self.tiles, &self.slots).into()
     }
@@ -21,20 +41,7 @@ impl Bad {
 /// Every call on a list that was damaged once or twice.
 pub fn list_case(random: &mut Random, count: &mut Count) {
     let order = random.pick(&[0, 1, 2, 2, 3, 3, 4, 5]);
-    let splits = random.between(2, 7);
-    let accounts = palette(random);
-    let mut words = Built::random(random, order, &accounts, splits).words;
-    for _ in 0..random.below(3) {
-        list(random, &mut words, order);
-    }
-    let mut bad = Bad { order, tiles: words.len(), slots: words };
-    bad.slots.extend((0..random.below(4)).map(|_| 0x3fff_ffff));
-    match random.below(12) {
-        0 => bad.order = random.pick(&[0, 1, 3, 10, 11, 255, 256, 257, u32::MAX]),
-        1 => bad.tiles = bad.slots.len() + random.pick(&[0, 1, 2, usize::MAX / 2 - 100]),
-        2 => bad.tiles = random.below(bad.slots.len() + 1),
-        _ => {}
-    }
+    let mut bad = Bad::random(random, order);
     count.check(bad.at());
     for _ in 0..4 {
         ask(random, count, bad.at());
@@ -56,6 +63,20 @@ pub fn list_case(random: &mut Random, count: &mut Count) {
     let (corner, size) = block(random, bad.order);
     let account = random.below(66) as u8;
     count.claim((bad.order, bad.tiles), &mut bad.slots, corner, size, account);
+}
+
+/// Two lists of which either, both or none may be bad, combined both ways round, and a slice with itself by the same
+/// tile count and by another; the orders may differ.
+pub fn pair_case(random: &mut Random, count: &mut Count) {
+    let order = random.pick(&[0, 1, 2, 2, 3, 3]);
+    let other = if random.once_in(4) { random.pick(&[0, 1, 2, 3, 4]) } else { order };
+    let (one, two) = (Bad::random(random, order), Bad::random(random, other));
+    let (one, two) = (one.at(), two.at());
+    let other = At { tiles: random.below(one.slots.len() + 2), ..one };
+    for (first, second) in [(one, two), (two, one), (one, one), (one, other), (other, one)] {
+        let mut out = garbage(random, 0, area(order) as usize + 2);
+        count.combine(random.pick(&CHOICES), first, second, &mut out);
+    }
 }
 
 /// One kind of damage to a list.

@@ -1,5 +1,6 @@
 //! Large beds: lists known by construction, by a rule of the bed, and by the plain implementation.
 
+use crate::combine;
 use crate::damage;
 use crate::living::Living;
 use crate::pair::{kind_of, record_of, stopped, Count};
@@ -126,12 +127,38 @@ fn others(random: &mut Random, count: &mut Count, raster: &[u8], words: &[u32]) 
         living.claim(count, corner, size, random.below(64) as u8);
     }
     assert_eq!(living.feed(count, &[1]), (23, 0));
+    let (choice, zones) = (random.below(2) as u32, combine::second(random, ORDER, raster));
+    count.combine_rooms(random, choice, at, (ORDER, zones.len(), &zones));
     let mut bad = words.to_vec();
     damage::list(random, &mut bad, ORDER);
     count.check((ORDER, bad.len(), &bad));
+    count.combine(choice, at, (ORDER, bad.len(), &bad), &mut vec![1; 4]);
     let mut bytes = file;
     damage::file(random, &mut bytes, words.len());
     count.read(&bytes, &mut slots);
+}
+
+/// Third maps of the regular beds by their rules. In the last all the second map's tiles, one for each pixel, merge to
+/// one.
+fn combined(count: &mut Count, uniform: &[u32], checkerboard: &[u32], stripes: &[u32]) {
+    let ones = |kept: fn(u32) -> bool, account: fn(u32) -> u32| {
+        (0..PIXELS as u32).filter(|&z| kept(z)).map(|z| z << 10 | account(z)).collect::<Vec<u32>>()
+    };
+    let thirds = [
+        (0, uniform, checkerboard, ones(|z| z % 4 == 0 || z % 4 == 3, |_| 63)),
+        (1, uniform, checkerboard, ones(|z| z % 4 == 1 || z % 4 == 2, |_| 63)),
+        (0, stripes, checkerboard, ones(|z| z % 4 == 0 || z % 4 == 3, |z| 1 + z % 2)),
+        (1, stripes, uniform, vec![]),
+        (0, checkerboard, uniform, checkerboard.to_vec()),
+        (0, stripes, stripes, stripes.to_vec()),
+        (0, uniform, stripes, uniform.to_vec()),
+    ];
+    for (choice, first, second, third) in thirds {
+        let (first, second) = ((ORDER, first.len(), first), (ORDER, second.len(), second));
+        let mut out = vec![1; third.len()];
+        assert_eq!(count.combine(choice, first, second, &mut out), (0, third.len()));
+        assert!(out == third, "a third map of two beds known by their rules");
+    }
 }
 
 /// A bed of each pattern; the list of the regular ones by their rule, of the others by the plain implementation.
@@ -144,14 +171,12 @@ pub fn patterns(random: &mut Random, count: &mut Count) {
     // No block of four has one account.
     let stripes: Vec<u8> = (0..PIXELS).map(|at| 1 + (at % SIDE % 2) as u8).collect();
     let single: Vec<u32> = (0..PIXELS as u32).map(|z| word(z, 1 + z % 2)).collect();
-    let plain = |raster: &[u8]| {
-        let bed = Bed { order: ORDER, kind: 0, scanned: 0, accounts: raster.to_vec() };
-        bed.blocks().iter().map(|tile| tile.word()).collect::<Vec<u32>>()
-    };
+    let plain = |raster: &[u8]| combine::words(ORDER, raster);
     let (boards, noise) = (boards(random), noise(random));
     let (of_boards, of_noise) = (plain(&boards), plain(&noise));
     let beds =
         [(uniform, vec![703]), (checkerboard, alternate), (stripes, single), (boards, of_boards), (noise, of_noise)];
+    combined(count, &beds[0].1, &beds[1].1, &beds[2].1);
     for (raster, words) in beds {
         assert!(plain(&raster) == words, "the plain blocks of a bed known by its rule");
         // Every feed looks at the whole list: row by row where it is short.

@@ -1,5 +1,6 @@
 //! Every combination of arguments at and past their limits on a few maps, and every bed of order 1 of three accounts.
 
+use crate::combine::{words, CHOICES};
 use crate::living::Living;
 use crate::pair::Count;
 use crate::plain::bed::Bed;
@@ -49,6 +50,8 @@ pub fn all(count: &mut Count) {
         records(count, order, &words);
     }
     order_one(count);
+    combined(count);
+    combined_small(count);
 }
 
 fn points(count: &mut Count, order: u32, words: &[u32]) {
@@ -131,10 +134,15 @@ fn records(count: &mut Count, order: u32, words: &[u32]) {
     }
 }
 
+/// The accounts of one of the 81 beds of order 1 with accounts 0, 1 and 2.
+fn of_three(bed: u32) -> Vec<u8> {
+    (0..4).map(|place| (bed / 3u32.pow(place) % 3) as u8).collect()
+}
+
 /// All beds of order 1 with accounts 0, 1 and 2, both kinds, with 0 to 4 slots; then every claim on them.
 fn order_one(count: &mut Count) {
-    for bed in 0..81u32 {
-        let accounts: Vec<u8> = (0..4).map(|place| (bed / 3u32.pow(place) % 3) as u8).collect();
+    for bed in 0..81 {
+        let accounts = of_three(bed);
         for (kind, m) in (0..2).flat_map(|kind| (0..5).map(move |m| (kind, m))) {
             let mut living = Living::unmade(Record { kind, order: 1, pixels: 0, tiles: 0 }, vec![9; m]);
             living.fresh(count, kind, 1);
@@ -149,6 +157,39 @@ fn order_one(count: &mut Count) {
                     count.shown(living.at(), corner, size);
                 }
             }
+        }
+    }
+}
+
+/// Every two of a few things.
+fn pairs<T: Clone>(things: &[T]) -> impl Iterator<Item = (T, T)> + '_ {
+    things.iter().flat_map(|one| things.iter().map(|two| (one.clone(), two.clone())))
+}
+
+/// Every two orders with counts at and past the slots, apart and in one slice, and every two maps with every choice.
+fn combined(count: &mut Count) {
+    let (one, two) = ([69, 7177, 8201, 12361, u32::MAX], [67, 12355, 0, 0, 0]);
+    for (order1, order2) in pairs(&ORDERS) {
+        for (tiles1, tiles2) in pairs(&COUNTS) {
+            count.combine(0, (order1, tiles1, &one), (order2, tiles2, &two), &mut vec![3; 5]);
+            count.combine(1, (order1, tiles1, &one), (order2, tiles2, &one), &mut vec![3; 5]);
+        }
+    }
+    for ((order1, one), (order2, two)) in pairs(&maps()) {
+        let rooms = &[1, 70, 0, 2, 4, 5][..if order1 < 10 { 6 } else { 2 }];
+        for (choice, &room) in CHOICES.iter().flat_map(|&choice| rooms.iter().map(move |room| (choice, room))) {
+            count.combine(choice, (order1, one.len(), &one), (order2, two.len(), &two), &mut vec![3; room]);
+        }
+    }
+}
+
+/// Every two beds of order 0, and every two of order 1 with accounts 0, 1 and 2, with 0 to 4 slots.
+fn combined_small(count: &mut Count) {
+    let pixels: Vec<_> = (0..64).map(|account| (0, words(0, &[account]))).collect();
+    let beds: Vec<_> = (0..81).map(|bed| (1, words(1, &of_three(bed)))).collect();
+    for ((order, one), (_, two)) in pairs(&pixels).chain(pairs(&beds)) {
+        for (choice, room) in (0..2).flat_map(|choice| (0..5).map(move |room| (choice, room))) {
+            count.combine(choice, (order, one.len(), &one), (order, two.len(), &two), &mut vec![9; room]);
         }
     }
 }

@@ -2,6 +2,7 @@
 //! the record and the slots that the plain implementation left; after each the bed has the same record and the same
 //! slots.
 
+use crate::combine::choice_of;
 use crate::lent::Lent;
 use crate::pair::{kind_of, record_of, same, stopped, At, Count};
 use crate::plain::{area, Record};
@@ -66,6 +67,21 @@ impl Living {
             self.bed = Some(Bed::read(bytes, self.lent(&before)).expect("accepted before"));
         }
         self.alike("a reading to the slots of a bed");
+        number
+    }
+
+    /// The third map takes the slots; the first, which is in them, is lent elsewhere.
+    pub fn combine(&mut self, count: &mut Count, choice: u32, second: (u32, usize, &[u32])) -> u32 {
+        let (order, before) = (self.record.order, self.slots.clone());
+        let first = (order, self.record.tiles, &before[..]);
+        let (number, tiles) = count.combine(choice, first, second, &mut self.slots);
+        if number == 0 {
+            self.record = Record { kind: 0, order, pixels: area(order) as u32, tiles };
+            let bed = |(order, tiles, slots)| Bed::<&[u32]>::from_slots(order, tiles, slots).expect("accepted before");
+            let third = Bed::combine(choice_of(choice), &bed(first), &bed(second), self.lent(&before));
+            self.bed = Some(third.expect("accepted before"));
+        }
+        self.alike("a third map in the slots of a bed");
         number
     }
 

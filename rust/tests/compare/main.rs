@@ -6,6 +6,7 @@
 //!     cargo test --test compare -- --seed 12345                 the same cases again
 //!     cargo test --test compare -- --group lists --case 678     one case again, as a failure prints it
 
+mod combine;
 mod damage;
 mod equal;
 mod large;
@@ -43,10 +44,12 @@ const ONCE: [Group; 4] = [
 ];
 
 /// Round after round until the time is over.
-const ROUNDS: [Group; 6] = [
+const ROUNDS: [Group; 8] = [
     Group { name: "sequences", case: sequences::case, round: 1000 },
     Group { name: "lists", case: damage::list_case, round: 5000 },
     Group { name: "files", case: damage::file_case, round: 5000 },
+    Group { name: "combine", case: combine::case, round: 1000 },
+    Group { name: "pairs", case: damage::pair_case, round: 2000 },
     Group { name: "points", case: points::case, round: 5000 },
     Group { name: "equal", case: equal::case, round: 1000 },
     Group { name: "large", case: large::case, round: 1 },

@@ -88,7 +88,7 @@ impl Debug for At<'_> {
 
 impl<'a> At<'a> {
     /// The beds to ask: one made of the slots, and the one that lives on.
-    fn beds(self) -> impl Iterator<Item = Result<Bed<&'a [u32]>, Refusal>> {
+    pub fn beds(self) -> impl Iterator<Item = Result<Bed<&'a [u32]>, Refusal>> {
         let made = Bed::from_slots(self.order, self.tiles, self.slots);
         std::iter::once(made).chain(self.held.map(|bed| Ok(bed.view())))
     }

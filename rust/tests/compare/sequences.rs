@@ -1,6 +1,7 @@
 //! Random lists of calls on the same few slots and through one bed that lives, beside the plain bed. The plain bed sees
 //! what the calls are handed besides record and slots, nothing of these.
 
+use crate::combine::{garbage, CHOICES};
 use crate::damage;
 use crate::living::Living;
 use crate::pair::{At, Count};
@@ -34,12 +35,13 @@ pub fn case(random: &mut Random, count: &mut Count) {
     let mut state = State { living: Living::unmade(record, slots), bed: None, wanted: Vec::new() };
     let begin = random.below(4);
     for step in 0..random.between(5, 40) {
-        let call = if step == begin { random.below(2) } else { random.below(20) };
+        let call = if step == begin { random.below(2) } else { random.below(22) };
         match call {
             0 => fresh(random, count, &mut state),
             1 => read(random, count, &mut state),
             2..=9 => feed(random, count, &mut state),
             10..=14 => claim(random, count, &mut state),
+            15 | 16 => combine(random, count, &mut state),
             _ => ask(random, count, state.living.at()),
         }
         compare_left(count, &state);
@@ -124,6 +126,29 @@ fn read(random: &mut Random, count: &mut Count, state: &mut State) {
     }
 }
 
+/// A second map, and the third in the slots of the first.
+fn combine(random: &mut Random, count: &mut Count, state: &mut State) {
+    let (choice, built) = (random.pick(&CHOICES), beside(random, state.living.record.order));
+    let m = state.living.slots.len();
+    let number = state.living.combine(count, choice, (built.order, built.words.len(), &built.words));
+    let Some(bed) = &mut state.bed else { return };
+    let second = Bed { order: built.order, kind: 0, scanned: area(built.order), accounts: built.raster };
+    match bed.combine(m, choice, &second) {
+        Ok(third) => {
+            assert_eq!(number, 0, "combine: the plain bed accepts");
+            *bed = third;
+        }
+        Err(refused) => assert_eq!(number, refused, "combine: the plain bed refuses"),
+    }
+}
+
+/// A bed beside one of an order, of the same order more often than not.
+fn beside(random: &mut Random, order: u32) -> Built {
+    let order = if random.once_in(6) { small_order(random) } else { order.min(5) };
+    let (accounts, splits) = (palette(random), random.between(1, 6));
+    Built::random(random, order, &accounts, splits)
+}
+
 /// A block of the bed, now and then one that is none.
 pub fn block(random: &mut Random, order: u32) -> (u32, u32) {
     if random.once_in(8) {
@@ -139,7 +164,7 @@ pub fn ask(random: &mut Random, count: &mut Count, at: At) {
     let (order, slots) = (at.order, at.slots);
     let side = 1usize << order.min(10);
     let (column, row) = (random.below(side + 1) as u32, random.below(side + 1) as u32);
-    match random.below(7) {
+    match random.below(8) {
         0 => {
             count.check(at);
         }
@@ -162,10 +187,20 @@ pub fn ask(random: &mut Random, count: &mut Count, at: At) {
             let asking = if random.once_in(8) { random.next() as u8 } else { random.between(1, 63) as u8 };
             count.rights(at, column, row, asking);
         }
+        6 => third(random, count, at),
         _ => {
             let room = random.below(6 + 4 * slots.len() + 5 * slots.len().min(63) + 3);
             count.write(at, &vec![0x5a; room]);
         }
+    }
+}
+
+/// The map as the first and as the second of two, and as both.
+fn third(random: &mut Random, count: &mut Count, at: At) {
+    let (choice, built) = (random.pick(&CHOICES), beside(random, at.order));
+    let other = (built.order, built.words.len(), &built.words[..]).into();
+    for (first, second) in [(at, other), (other, at), (at, at)] {
+        count.combine(choice, first, second, &mut garbage(random, 0, 40));
     }
 }
 

@@ -27,6 +27,7 @@ pub fn lines(count: &mut Count) {
     limits(count);
     rights(count);
     places(count);
+    zones(count);
 }
 
 fn bed_m(count: &mut Count) {
@@ -123,4 +124,25 @@ fn places(count: &mut Count) {
         assert_eq!(scanned(count, 0, 3, 1, &accounts).3, [word(corner, 0, 9)]);
         assert_eq!(count.lookup((3, 1, &[word(corner, 0, 9)]), column as u32, row as u32), (0, 9));
     }
+}
+
+/// Bed M inside the zones NW and SE, and outside them; the zones inside M; and zones of another order.
+fn zones(count: &mut Count) {
+    let (bed, zones) = ((2, 4, &M_WORDS[..]), (2, 2, &[word(0, 1, 3), word(12, 1, 3)][..]));
+    let mut slots = vec![u32::MAX; 3];
+    assert_eq!(count.combine(0, bed, zones, &mut slots), (0, 2));
+    assert_eq!(slots, [word(0, 1, 5), word(12, 1, 9), 0]);
+    assert_eq!(count.combine(1, bed, zones, &mut slots), (0, 2));
+    assert_eq!(slots, [word(7, 0, 9), word(8, 0, 9), 0]);
+    assert_eq!(count.combine(0, zones, bed, &mut slots), (0, 2));
+    assert_eq!(slots, [word(0, 1, 3), word(12, 1, 3), 0]);
+    assert_eq!(count.combine(0, bed, zones, &mut vec![1; 2]), (0, 2));
+    assert_eq!(count.combine(0, bed, zones, &mut vec![1]), (25, 0));
+    assert_eq!(count.combine(0, bed, (3, 2, zones.2), &mut vec![1]), (51, 0));
+    assert_eq!(count.combine(0, bed, (11, 2, zones.2), &mut slots), (1, 0));
+    assert_eq!(count.combine(0, (2, 5, bed.2), (11, 2, zones.2), &mut slots), (2, 0));
+    // Four zones of two accounts over one tile: the third map has the tile, not its quarters.
+    let quarters = [3, 4, 3, 4].iter().zip(0..).map(|(&account, corner)| word(corner, 0, account)).collect::<Vec<_>>();
+    assert_eq!(count.combine(0, bed, (2, 4, &quarters[..]), &mut slots), (0, 1));
+    assert_eq!(slots, [word(0, 1, 5), 0, 0]);
 }

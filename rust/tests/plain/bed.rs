@@ -128,6 +128,26 @@ impl Bed {
         0
     }
 
+    /// The third bed of this one and a second with m slots, by rows and wholly scanned. Choice 0 keeps this one's
+    /// pixels where the second is somebody's, any other those where it is nobody's.
+    pub fn combine(&self, m: usize, choice: u32, second: &Bed) -> Result<Bed, u32> {
+        if self.order != second.order {
+            return Err(51);
+        }
+        let mut third = Bed { kind: 0, scanned: area(self.order), ..self.clone() };
+        for (at, account) in third.accounts.iter_mut().enumerate() {
+            let somebodys = second.accounts[at] != 0;
+            let kept = if choice == 0 { somebodys } else { !somebodys };
+            if !kept {
+                *account = 0;
+            }
+        }
+        if third.blocks().len() > m {
+            return Err(25);
+        }
+        Ok(third)
+    }
+
     /// Reads a file with m slots: the bed that it shows, by rows and wholly scanned.
     pub fn read(m: usize, bytes: &[u8]) -> Result<Bed, u32> {
         let (order, tiles) = file::read(bytes, m)?;

@@ -211,6 +211,25 @@ pub fn claim(order: u32, tiles: usize, slots: &[u32], corner: u32, size: u32, ac
     }
 }
 
+/// An order, a tile count and slots.
+pub type Map<'a> = (u32, usize, &'a [u32]);
+
+/// The number, the third map's tile count and its slots.
+pub fn combine(choice: u32, first: Map, second: Map, out: &[u32]) -> (u32, usize, Vec<u32>) {
+    let bed = |(order, tiles, slots): Map| {
+        let tiles = checked(order, tiles, slots)?;
+        Ok(Bed { order, kind: 0, scanned: area(order), accounts: painted(order, &tiles) })
+    };
+    let third = bed(first).and_then(|first| first.combine(out.len(), choice, &bed(second)?));
+    match third {
+        Err(number) => (number, 0, out.to_vec()),
+        Ok(third) => {
+            let blocks = third.blocks();
+            (0, blocks.len(), left(out.len(), &blocks))
+        }
+    }
+}
+
 /// The number, the length and the bytes.
 pub fn write(order: u32, tiles: usize, slots: &[u32], bytes: &[u8]) -> (u32, usize, Vec<u8>) {
     let tiles = match checked(order, tiles, slots) {
