@@ -3,7 +3,7 @@
 use crate::failure::Failure;
 use crate::input::Source;
 use crate::output::Target;
-use kingletbed::Pixel;
+use kingletbed::{Choice, Pixel};
 use std::ffi::OsString;
 
 /// What `--help` says.
@@ -20,6 +20,7 @@ pub enum Command {
     Scan { image: Source, out: Target },
     Decode { file: Source, out: Target, plain: bool },
     Claim { file: Source, out: Option<Target>, claim: Claim },
+    Combine { choice: Choice, file: Source, zones: Source, out: Target },
     Draw { file: Source, out: Target, style: Style },
 }
 
@@ -67,6 +68,8 @@ pub fn parse(args: impl IntoIterator<Item = OsString>) -> Result<Command, Failur
         }
         Some("claim") => line.claim(true)?,
         Some("release") => line.claim(false)?,
+        Some("inside") => line.combine(Choice::Inside)?,
+        Some("outside") => line.combine(Choice::Outside)?,
         Some("draw") => line.draw()?,
         _ => return Err(Failure::usage(format!("there is no command {}", name.to_string_lossy()))),
     };
@@ -164,6 +167,14 @@ impl Line {
         let account = if account { Some(self.number("ACCOUNT")?) } else { None };
         let out = self.value("-o").map(Target::of);
         Ok(Command::Claim { file, out, claim: Claim { corner, size, account } })
+    }
+
+    fn combine(&mut self, choice: Choice) -> Result<Command, Failure> {
+        let (file, zones) = (self.source("FILE")?, self.source("ZONES")?);
+        if (&file, &zones) == (&Source::Standard, &Source::Standard) {
+            return Err(Failure::usage("FILE and ZONES cannot both be standard input"));
+        }
+        Ok(Command::Combine { choice, file, zones, out: self.target()? })
     }
 
     fn draw(&mut self) -> Result<Command, Failure> {

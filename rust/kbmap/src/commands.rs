@@ -3,12 +3,14 @@
 mod ask;
 mod change;
 mod check;
+mod combine;
 mod draw;
 mod raster;
 
 pub use ask::{at, show};
 pub use change::claim;
 pub use check::check;
+pub use combine::combine;
 pub use draw::draw;
 pub use raster::{decode, scan};
 

@@ -2,7 +2,7 @@
 
 use crate::colour::{Colour, Fills, PALETTE};
 use crate::failure::Failure;
-use crate::map::{Holding, Map};
+use crate::map::{self, Holding, Map};
 use crate::words::{count, span};
 use kingletbed::{raw, Account, Pixel, Tile};
 
@@ -41,8 +41,7 @@ impl Drawing {
         let fills = Fills::of_raster(map.bed.side() as usize, &raster);
         let entry = |holding: Holding| Entry { fill: fills.fill(holding.account.0), holding };
         let entries: Vec<Entry> = map.holdings().into_iter().map(entry).collect();
-        let held: u32 = entries.iter().map(|entry| entry.holding.pixels).sum();
-        let free = map.bed.pixels() - held;
+        let free = map.bed.pixels() - map.held();
         let squares = squares(&map, &entries)?;
         let notes = notes(&entries, fills.touching);
         Ok(Drawing { map, raster, squares, entries, free, notes })
@@ -55,8 +54,7 @@ impl Drawing {
 
     /// "order 6, 64 by 64 pixels, 111 tiles".
     pub fn summary(&self) -> String {
-        let tiles = count(self.map.bed.words().len(), "tile");
-        format!("order {}, {}, {tiles}", self.map.bed.order(), self.map.extent())
+        map::summary(&self.map.bed)
     }
 
     pub fn side(&self) -> u32 {

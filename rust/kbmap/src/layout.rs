@@ -69,4 +69,9 @@ impl<'a> Layout<'a> {
         });
         entries.take(self.entries().unwrap_or(0)).collect()
     }
+
+    /// The pixels that are somebody's, by the roster.
+    pub fn held(self) -> u32 {
+        self.roster().into_iter().map(|(_, pixels)| pixels).sum()
+    }
 }

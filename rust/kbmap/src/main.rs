@@ -1,5 +1,5 @@
-//! kbmap: checks, shows, changes and draws map files of a machine's bed. All work on maps is the library's; this
-//! program reads, writes and tells.
+//! kbmap: checks, shows, changes, combines and draws map files of a machine's bed. All work on maps is the library's;
+//! this program reads, writes and tells.
 
 #![forbid(unsafe_code)]
 
@@ -45,6 +45,7 @@ fn obey(command: Command) -> Result<(), Failure> {
         Command::Scan { image, out } => commands::scan(&image, &out),
         Command::Decode { file, out, plain } => commands::decode(file, &out, plain),
         Command::Claim { file, out, claim } => commands::claim(file, out, &claim),
+        Command::Combine { choice, file, zones, out } => commands::combine(choice, file, zones, &out),
         Command::Draw { file, out, style } => commands::draw(file, &out, &style),
     }
 }

@@ -33,6 +33,12 @@ pub fn read(bytes: &[u8]) -> Result<Bed<Vec<u32>>, Refusal> {
     Bed::read(bytes, slots())
 }
 
+/// "order 6, 64 by 64 pixels, 111 tiles".
+pub fn summary(bed: &Bed<Vec<u32>>) -> String {
+    let (square, tiles) = (words::square(bed.side()), words::count(bed.words().len(), "tile"));
+    format!("order {}, {square}, {tiles}", bed.order())
+}
+
 /// The file of a bed.
 pub fn file_of(bed: &Bed<Vec<u32>>) -> Result<Vec<u8>, Refusal> {
     let mut file = vec![0; bed.file_room()];
@@ -74,6 +80,11 @@ impl Map {
             Holding { account, class: words::class(account), tiles, pixels }
         };
         roster.into_iter().map(holding).collect()
+    }
+
+    /// The pixels that are somebody's.
+    pub fn held(&self) -> u32 {
+        Layout { bytes: &self.bytes }.held()
     }
 
     /// The account of each pixel, row after row.

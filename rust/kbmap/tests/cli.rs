@@ -2,7 +2,7 @@
 
 mod common;
 
-use common::{answer, noise, Answer, Scratch, BED, PICTURE};
+use common::{answer, noise, Answer, Scratch, BED, PICTURE, ZONES};
 use std::fs;
 
 fn ok(text: &str) -> Answer {
@@ -241,6 +241,85 @@ fn claim_refuses() {
         assert!(answer.err.ends_with(&format!("\n  {asked}{detail}")), "{}", answer.err);
     }
     assert_eq!(scratch.get("bed.map"), BED);
+}
+
+/// Bed M inside its zones, and outside them.
+const INSIDE: [u8; 24] = [2, 0, 0, 0, 2, 0, 0, 0, 69, 0, 0, 48, 73, 2, 5, 0, 0, 0, 4, 9, 0, 0, 0, 4];
+const OUTSIDE: [u8; 19] = [2, 0, 0, 0, 2, 0, 0, 28, 9, 0, 0, 32, 9, 1, 9, 0, 0, 0, 2];
+
+#[test]
+fn inside_and_outside() {
+    let scratch = Scratch::with_zones();
+    let told = |kept: &str| format!("order 2, 4 by 4 pixels, 2 tiles\n  kept: {kept} held pixels\n");
+    let inside = scratch.kbmap("inside bed.map zones.map -o third.map");
+    assert_eq!((inside, scratch.get("third.map")), (ok(&format!("third.map: {}", told("8 of 10"))), INSIDE.to_vec()));
+    let outside = scratch.kbmap("outside bed.map zones.map -o third.map");
+    assert_eq!((outside, scratch.get("third.map")), (ok(&format!("third.map: {}", told("2 of 10"))), OUTSIDE.to_vec()));
+    let piped = |line: &str, input: &[u8]| {
+        let answer = scratch.fed(line, input);
+        (answer.status, answer.out, answer.err)
+    };
+    let err = |kept| format!("standard output: {}", told(kept));
+    assert_eq!(piped("inside - zones.map -o -", &BED), (0, INSIDE.to_vec(), err("8 of 10")));
+    assert_eq!(piped("outside bed.map - -o -", &ZONES), (0, OUTSIDE.to_vec(), err("2 of 10")));
+    assert_eq!((scratch.get("bed.map"), scratch.get("zones.map")), (BED.to_vec(), ZONES.to_vec()));
+    assert_eq!(scratch.names(), ["bed.map", "third.map", "zones.map"]);
+}
+
+/// All of a bed is inside itself, and nothing of it outside.
+#[test]
+fn inside_itself() {
+    let scratch = Scratch::with_bed();
+    let whole = ok("third.map: order 2, 4 by 4 pixels, 4 tiles\n  kept: 10 of 10 held pixels\n");
+    assert_eq!(scratch.kbmap("inside bed.map bed.map -o third.map"), whole);
+    assert_eq!(scratch.get("third.map"), BED);
+    let nothing = ok("third.map: order 2, 4 by 4 pixels, 0 tiles\n  kept: 0 of 10 held pixels\n");
+    assert_eq!(scratch.kbmap("outside bed.map bed.map -o third.map"), nothing);
+    assert_eq!(scratch.get("third.map"), [2, 0, 0, 0, 0, 0]);
+    scratch.put("one.map", &[0, 0, 0, 0, 1, 0, 0, 0, 3, 1, 3, 0, 0, 0, 1]);
+    let one = ok("third.map: order 0, 1 by 1 pixel, 1 tile\n  kept: 1 of 1 held pixel\n");
+    assert_eq!(scratch.kbmap("inside one.map one.map -o third.map"), one);
+}
+
+/// Every pixel of small beds and of a large one, as the two pictures have it.
+#[test]
+fn inside_and_outside_by_pixels() {
+    let scratch = Scratch::new();
+    for order in [0, 1, 5, 10] {
+        let (picture, pixels) = (noise(1 << order), 1 << (2 * order));
+        let head = picture.len() - pixels;
+        let mut zones = picture.clone();
+        zones[head..].reverse();
+        zones[head..].iter_mut().filter(|grey| **grey < 30).for_each(|grey| *grey = 0);
+        assert_eq!(scratch.fed("scan - -o bed.map", &picture).status, 0);
+        assert_eq!(scratch.fed("scan - -o zones.map", &zones).status, 0);
+        for (command, somebodys) in [("inside", true), ("outside", false)] {
+            assert_eq!(scratch.kbmap(&format!("{command} bed.map zones.map -o third.map")).status, 0);
+            let mut third = picture.clone();
+            let left = third[head..].iter_mut().zip(&zones[head..]).filter(|(_, &zone)| (zone != 0) != somebodys);
+            left.for_each(|(grey, _)| *grey = 0);
+            assert!(scratch.kbmap("decode third.map -o -").out == third, "{command}, order {order}");
+        }
+    }
+}
+
+#[test]
+fn inside_refuses() {
+    let scratch = Scratch::with_zones();
+    scratch.put("large.map", &[3, 0, 0, 0, 0, 0]);
+    scratch.put("cut.map", &BED[..20]);
+    let differ = "refused, 51 ORDERS_DIFFER: the two maps have different orders";
+    let (bed, large) = ("  bed.map: order 2, 4 by 4 pixels\n", "  large.map: order 3, 8 by 8 pixels\n");
+    let answer = scratch.kbmap("inside bed.map large.map -o third.map");
+    assert_eq!(answer, refused(&format!("kbmap: bed.map and large.map: {differ}\n{bed}{large}")));
+    let answer = scratch.kbmap("outside large.map bed.map -o third.map");
+    assert_eq!(answer, refused(&format!("kbmap: large.map and bed.map: {differ}\n{large}{bed}")));
+    let cut = "kbmap: cut.map: refused, 41 FILE_CUT_SHORT: the file ends too early\n  \
+               the file has 20 bytes; with 4 tiles its roster begins at byte 21\n";
+    for line in ["inside cut.map zones.map -o third.map", "outside bed.map cut.map -o third.map"] {
+        assert_eq!(scratch.kbmap(line), refused(cut));
+    }
+    assert_eq!(scratch.names(), ["bed.map", "cut.map", "large.map", "zones.map"]);
 }
 
 /// The file that is replaced keeps its permissions, and a link to it stays a link.

@@ -4,7 +4,7 @@
 
 mod common;
 
-use common::{answer, Answer, Scratch, BED, PICTURE};
+use common::{answer, Answer, Scratch, BED, PICTURE, ZONES};
 use std::fs::{self, File, Permissions};
 use std::os::unix::fs::{chown, symlink, MetadataExt, PermissionsExt};
 use std::process::{Child, Stdio};
@@ -78,10 +78,10 @@ fn hard_links() {
     assert_eq!(scratch.names(), ["also.map", "bed.map", "new.map"]);
 }
 
-/// A picture or a page does not take the place of the map that it is made of, by whatever name.
+/// A picture, a page or a third map does not take the place of a map that it is made of, by whatever name.
 #[test]
 fn output_is_the_input() {
-    let scratch = Scratch::with_bed();
+    let scratch = Scratch::with_zones();
     scratch.put("bed.pgm", PICTURE);
     symlink("bed.map", scratch.path.join("link.svg")).unwrap();
     fs::hard_link(scratch.path.join("bed.pgm"), scratch.path.join("also.pgm")).unwrap();
@@ -93,16 +93,28 @@ fn output_is_the_input() {
         "decode bed.map --plain -o link.svg",
         "scan bed.pgm -o bed.pgm",
         "scan bed.pgm -o also.pgm",
+        "inside bed.map zones.map -o bed.map",
+        "outside zones.map bed.map -o bed.map",
+        "inside bed.map zones.map -o link.svg",
+        "outside zones.map link.svg -o ./bed.map",
     ];
     for line in lines {
         fails(&scratch.kbmap(line), " is the input itself: name another file behind -o");
     }
-    for line in ["decode - -o bed.map", "draw - --svg -o bed.map", "claim - 0 0 7 -o bed.map"] {
+    let piped = [
+        "decode - -o bed.map",
+        "draw - --svg -o bed.map",
+        "claim - 0 0 7 -o bed.map",
+        "inside - zones.map -o bed.map",
+        "outside zones.map - -o bed.map",
+    ];
+    for line in piped {
         let mut command = scratch.command(KBMAP);
         command.args(line.split_whitespace()).stdin(File::open(scratch.path.join("bed.map")).unwrap());
         assert_eq!(command.output().unwrap().status.code(), Some(2), "{line}");
     }
     assert_eq!((scratch.get("bed.map"), scratch.get("bed.pgm")), (BED.to_vec(), PICTURE.to_vec()));
+    assert_eq!(scratch.get("zones.map"), ZONES);
     assert_eq!(scratch.fed("draw /dev/stdin --svg -o /dev/null", &BED).status, 0);
 }
 

@@ -28,14 +28,21 @@ fn usage() {
 
 #[test]
 fn unreadable() {
-    let scratch = Scratch::new();
-    for line in
-        ["check no.map", "show no.map", "at no.map 0 0", "draw no.map", "scan no.map -o x", "release no.map 0 0"]
-    {
+    let scratch = Scratch::with_bed();
+    for line in [
+        "check no.map",
+        "show no.map",
+        "at no.map 0 0",
+        "draw no.map",
+        "scan no.map -o x",
+        "release no.map 0 0",
+        "inside no.map bed.map -o x",
+        "outside bed.map no.map -o x",
+    ] {
         assert_eq!(trouble(&scratch, line), "kbmap: no.map: No such file or directory\n");
     }
     assert_eq!(trouble(&scratch, "check ."), "kbmap: .: Is a directory\n");
-    assert!(scratch.names().is_empty());
+    assert_eq!(scratch.names(), ["bed.map"]);
 }
 
 #[test]
@@ -72,6 +79,7 @@ fn full_disk() {
         "scan bed.pgm -o /dev/full",
         "decode bed.map -o /dev/full",
         "claim bed.map 0 2 7 -o /dev/full",
+        "outside bed.map bed.map -o /dev/full",
         "draw bed.map --svg -o /dev/full",
         "draw bed.map --html -o /dev/full",
     ] {
@@ -95,7 +103,12 @@ fn failed_writes_leave_the_old_file() {
     assert_eq!(scratch.fed("scan - -o large.map", &noise(64)).status, 0);
     let large = scratch.get("large.map");
     scratch.put("old", b"what was there");
-    for line in ["decode large.map -o old", "draw large.map --svg -o old", "release large.map 0 0"] {
+    for line in [
+        "decode large.map -o old",
+        "draw large.map --svg -o old",
+        "inside large.map large.map -o old",
+        "release large.map 0 0",
+    ] {
         let mut command = scratch.command("sh");
         command.args(["-c", r#"trap "" XFSZ; ulimit -f 1; exec "$0" "$@""#, KBMAP]).args(line.split_whitespace());
         let failed = answer(&mut command, b"");
@@ -110,8 +123,17 @@ fn failed_writes_leave_the_old_file() {
 /// The reader closes the pipe before the first byte: a quiet end.
 #[test]
 fn closed_pipe() {
-    let scratch = Scratch::new();
-    for line in ["check -", "show -", "at - 0 0", "decode - -o -", "release - 0 0", "draw -", "draw - --html -o -"] {
+    let scratch = Scratch::with_bed();
+    for line in [
+        "check -",
+        "show -",
+        "at - 0 0",
+        "decode - -o -",
+        "release - 0 0",
+        "inside - bed.map -o -",
+        "draw -",
+        "draw - --html -o -",
+    ] {
         let mut command = scratch.command(KBMAP);
         command.args(line.split_whitespace()).stdin(Stdio::piped()).stdout(Stdio::piped()).stderr(Stdio::piped());
         let mut child = command.spawn().unwrap();

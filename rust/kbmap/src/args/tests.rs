@@ -50,6 +50,20 @@ fn claims() {
 }
 
 #[test]
+fn combinings() {
+    let zones = || Source::File("zones.map".into());
+    let combine = |choice, file, zones, out| Ok(Command::Combine { choice, file, zones, out });
+    let inside = combine(Choice::Inside, bed(), zones(), to("third.map"));
+    assert_eq!(parsed("inside bed.map zones.map -o third.map"), inside);
+    assert_eq!(
+        parsed("outside - zones.map -o -"),
+        combine(Choice::Outside, Source::Standard, zones(), Target::Standard)
+    );
+    let piped = combine(Choice::Outside, bed(), Source::Standard, to("third.map"));
+    assert_eq!(parsed("outside -o third.map bed.map -"), piped);
+}
+
+#[test]
 fn drawings() {
     let draw = |out, style| Ok(Command::Draw { file: bed(), out, style });
     assert_eq!(parsed("draw bed.map -o bed.svg"), draw(to("bed.svg"), Style::Svg));
@@ -85,6 +99,11 @@ fn mistakes() {
     assert_eq!(hint("claim a 1,2 4294967296 3"), "SIZE is a whole number from 0 to 4294967295, not 4294967296");
     assert_eq!(hint("claim a 1, 2 3"), "ROW is a whole number from 0 to 4294967295, not ");
     assert_eq!(hint("release a 0 1 2"), "release takes no further 2");
+    assert_eq!(hint("inside a -o c"), "ZONES is missing");
+    assert_eq!(hint("inside a b"), "-o is missing: where should the result go?");
+    assert_eq!(hint("inside - - -o c"), "FILE and ZONES cannot both be standard input");
+    assert_eq!(hint("outside a b c -o d"), "outside takes no further c");
+    assert_eq!(hint("outside a b -o c --plain"), "outside takes no --plain here");
     assert_eq!(hint("draw a -o b.png"), "b.png ends neither in .svg nor in .html");
     assert_eq!(hint("draw a --svg --html"), "--svg and --html exclude each other");
     assert_eq!(hint("draw a -o b.svg --colour"), "draw takes no --colour here");
@@ -94,7 +113,7 @@ fn mistakes() {
 #[test]
 fn help() {
     assert!(HELP.lines().all(|line| line.len() <= 80));
-    for command in ["check", "show", "at", "scan", "decode", "claim", "release", "draw"] {
+    for command in ["check", "show", "at", "scan", "decode", "claim", "release", "inside", "outside", "draw"] {
         assert!(HELP.contains(&format!("  kbmap {command} ")), "{command}");
     }
 }

@@ -11,8 +11,7 @@ use std::fmt::Write;
 /// Order, tiles, and the accounts with what they have.
 pub fn show(file: Source) -> Result<(), Failure> {
     let map = Map::open(file)?;
-    let (bed, holdings) = (&map.bed, map.holdings());
-    let held: u32 = holdings.iter().map(|holding| holding.pixels).sum();
+    let (bed, holdings, held) = (&map.bed, map.holdings(), map.held());
     let free = bed.pixels() - held;
     let noun = |pixels| if pixels == 1 { "pixel" } else { "pixels" };
     let head = [

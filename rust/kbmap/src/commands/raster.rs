@@ -7,7 +7,6 @@ use crate::map::{self, Map};
 use crate::output::Target;
 use crate::pgm::{self, Picture};
 use crate::progress::Progress;
-use crate::words::{count, square};
 use kingletbed::{Account, Bed, Kind, Refusal};
 
 /// Portions of a picture fed one after another. Each feed checks the list so far, so that there are few.
@@ -20,8 +19,7 @@ pub fn scan(image: &Source, out: &Target) -> Result<(), Failure> {
     let bed = fed(&picture).map_err(|(refusal, detail)| Failure::refusal(image.name(), refusal, &[detail]))?;
     let file = map::file_of(&bed).map_err(|refusal| Failure::refusal(out.name(), refusal, &[]))?;
     out.write_bytes(&|writer| writer.write_all(&file))?;
-    let (square, tiles) = (square(bed.side()), count(bed.words().len(), "tile"));
-    let mut line = format!("{}: order {}, {square}, {tiles}", out.name(), bed.order());
+    let mut line = format!("{}: {}", out.name(), map::summary(&bed));
     if picture.maxval != u32::from(Account::HIGHEST.0) {
         let maxval = picture.maxval;
         line.push_str(&format!("\n  the picture's maxval is {maxval}; grey values were taken as they are, not scaled"));

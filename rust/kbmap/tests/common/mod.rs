@@ -13,6 +13,9 @@ use std::sync::atomic::{AtomicUsize, Ordering};
 pub const BED: [u8; 32] =
     [2, 0, 0, 0, 4, 0, 0, 0, 69, 0, 0, 28, 9, 0, 0, 32, 9, 0, 0, 48, 73, 2, 5, 0, 0, 0, 4, 9, 0, 0, 0, 6];
 
+/// The file of zones on it: the blocks NW and SE, account 3's.
+pub const ZONES: [u8; 19] = [2, 0, 0, 0, 2, 0, 0, 0, 67, 0, 0, 48, 67, 1, 3, 0, 0, 0, 8];
+
 /// Bed M as a raw picture.
 pub const PICTURE: &[u8] = b"P5\n4 4\n63\n\x05\x05\0\0\x05\x05\0\x09\x09\0\x09\x09\0\0\x09\x09";
 
@@ -49,6 +52,13 @@ impl Scratch {
     pub fn with_bed() -> Scratch {
         let scratch = Scratch::new();
         scratch.put("bed.map", &BED);
+        scratch
+    }
+
+    /// The same with zones in zones.map.
+    pub fn with_zones() -> Scratch {
+        let scratch = Scratch::with_bed();
+        scratch.put("zones.map", &ZONES);
         scratch
     }
 
