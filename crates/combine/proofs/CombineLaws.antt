@@ -1,11 +1,10 @@
--- What the offered call gives, by how its checks end, and what the third list is.
---     combined-shows, -valid, -linear, -least   the third list in a reader's terms
---     maps-passed                        two maps that pass their checks
+-- What the offered call gives, by how its checks end.
+--     maps-passed                               two maps that pass their checks
 --     maps-first, -second, -orders, -accepted   these checks, by how each ends
---     combineOf-refused, -slots, -done   the call refused by them, refused by 25, and accepted
+--     combineOf-refused, -slots, -done          the call refused by them, refused by 25, and accepted
 use mathlib.Core.Path.{_≡_, refl, sym, _∙_}
 use mathlib.Core.List.{List, _++_, map}
-use Prim.Native.Nat.{ℕ, _-_, _^_, _≤_, _<_}
+use Prim.Native.Nat.{ℕ, _-_, _≤_, _<_}
 use native.Mathlib.Omega.{arith}
 use lib.ListN.{length, take, replicate}
 use lib.Seq.{sets}
@@ -13,36 +12,13 @@ use Rattle.basics.proofs.Tests.{test-eqb, test-leb}
 use Rattle.refusal.specs.Refusal.{accepted, ordersDiffer, slotsExceeded}
 use Rattle.refusal.specs.Checks.{Gives}
 use Rattle.refusal.proofs.CheckLaws.{must-on, must-off, must-inv, else-on, else-off, else-inv, unless-on, unless-off}
-use Rattle.tile.specs.Tile.{Tile, wordOf}
-use Rattle.tile.specs.Slots.{tilesIn}
-use Rattle.quadtree.specs.Raster.{accountAt, Shows}
-use Rattle.quadtree.specs.Quadtree.{LinearQuadtree}
-use Rattle.quadtree.specs.Valid.{Valid}
-use Rattle.quadtree.proofs.Laws.{linear, valid, round-trip, minimum}
+use Rattle.tile.specs.Tile.{wordOf}
 use Rattle.list_check.specs.ListCheck.{listCheck}
 use Rattle.list_check.proofs.Accepts.{listCheck-valid}
 use Rattle.list_cut.proofs.Passes.{filled-words}
 use Rattle.combine_rule.specs.declared.Choice.{Choice}
-use Rattle.combine_rule.specs.Rule.{ruleOf, combined}
 use Rattle.combine.specs.Combine.{combinedList, mapsCheck, combineRefusal, combineOf}
 use Rattle.combine.specs.Maps.{Maps}
-
-module _ (choice : Choice) (n t : ℕ) (s : List ℕ) (u : ℕ) (w : List ℕ) where
-  -- pixel by pixel it has what the rule says ..
-  pub combined-shows : (z : ℕ) → z < 4 ^ n → accountAt (combinedList choice n t s u w) z ≡ ruleOf choice (accountAt (tilesIn t s) z) (accountAt (tilesIn u w) z)
-  combined-shows z h = round-trip n (combined choice t s u w) z h
-
-  -- .. it is a list that passes the checks, as tiles ..
-  pub combined-valid : Valid n (combinedList choice n t s u w)
-  combined-valid = valid n (combined choice t s u w)
-
-  -- .. the linear quadtree of the rule ..
-  pub combined-linear : LinearQuadtree n (combined choice t s u w) (combinedList choice n t s u w)
-  combined-linear = linear n (combined choice t s u w)
-
-  -- .. and no list of quadrant tiles shows as much with fewer tiles
-  pub combined-least : (ts : List Tile) → Shows n (combined choice t s u w) ts → length (combinedList choice n t s u w) ≤ length ts
-  combined-least ts h = minimum h
 
 module _ (n t : ℕ) (s : List ℕ) (m u : ℕ) (w : List ℕ) where
   pub maps-passed : mapsCheck n t s m u w ≡ accepted → Maps n t s u w × (n ≡ m)

@@ -1,3 +1,3 @@
 -- Laws of the pixel rule.
---     RuleCases   the rule, case by case
+--     RuleCases   the rule, case by case, and its bound
 pub mod RuleCases

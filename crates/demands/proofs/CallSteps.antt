@@ -5,25 +5,24 @@
 --     step-agrees        any call on a state that keeps a bed
 use mathlib.Core.Path.{_≡_, refl, ap, sym, _∙_}
 use mathlib.Core.Bool.{Bool, true, false, not}
-use mathlib.Core.List.{List, [], _∷_, _++_, map}
+use mathlib.Core.List.{List, [], _++_, map}
 use Prim.Native.Nat.{ℕ, zero, suc, _+_, _-_, _^_, _≤_}
 use native.Mathlib.Decide.{decLe}
 use native.Mathlib.Nat.{le-refl}
 use native.Mathlib.Omega.{arith}
 use lib.ListN.{length, replicate, length-map}
 use Rattle.basics.specs.Choice.{if}
-use Rattle.basics.proofs.Tests.{test-leb}
-use Rattle.basics.proofs.Tests as tests
+use Rattle.basics.proofs.Tests.{test, test-leb}
 use Rattle.refusal.specs.Refusal.{accepted, orderTooLarge, scannedTooLarge, tileUnscanned, blockInvalid}
 use Rattle.refusal.specs.Checks.{must, unless}
 use Rattle.refusal.proofs.CheckLaws.{must-on, must-off, must-inv, else-on}
 use Rattle.tile.specs.Tile.{Tile, tileOf, highestOrder, highestAccount}
 use Rattle.tile.specs.Slots.{filled}
-use Rattle.tile.proofs.TileLaws.{tileOf-account}
 use Rattle.tile.proofs.SlotsLaws.{words-tiles}
-use Rattle.quadtree.specs.Raster.{accountAt, covers}
+use Rattle.quadtree.specs.Raster.{accountAt}
 use Rattle.quadtree.specs.Quadtree.{quadtree}
 use Rattle.quadtree.specs.Valid.{Valid}
+use Rattle.quadtree.proofs.Shown.{accountAt-low}
 use Rattle.quadtree.proofs.Blocks.{blank-quadtree}
 use Rattle.quadtree.proofs.ValidLaws.{quadtree-cong, valid-quadtree}
 use Rattle.bed.specs.declared.Kind.{Kind}
@@ -85,7 +84,7 @@ module _ (m : ℕ) (b : Bed) (w : Good m (b .order) (b .scanned) (b .account)) (
   claim-good : claimCheck m (b .order) (b .account) c k a ≡ accepted → Good m (b .order) (b .scanned) (claimed (b .account) c k a)
   unfolding claimCheck
   claim-good e =
-      let p = must-inv {r = blockInvalid} (tests.test _ (λ t. t) (λ t. t)) (omega arith) e in
+      let p = must-inv {r = blockInvalid} (test _ (λ t. t) (λ t. t)) (omega arith) e in
       let q = must-inv (test-leb a highestAccount) (omega arith) (p .1) in
       let r = must-inv (test-leb (length (quadtree (b .order) (claimed (b .account) c k a))) m) (omega arith) (q .1) in
       record { order = w .order; scanned = w .scanned; accounts = paint-accounts (b .order) c (c + 4 ^ k) a (q .0) (w .accounts); room = r .0 }
@@ -133,11 +132,6 @@ module _ (m : ℕ) (b : Bed) (w : Good m (b .order) (b .scanned) (b .account)) (
   feed-agrees = feed-agrees-by (hasUnscanned b) refl
 
 -- readings
-account-shown : (ws : List ℕ) (z : ℕ) → accountAt (map tileOf ws) z ≤ highestAccount
-unfolding accountAt
-account-shown [] z = omega arith
-account-shown (w ∷ ws) z = tests.by-test (λ a. a ≤ highestAccount) (tests.test (covers (tileOf w) z) (λ t. t) (λ t. t)) (λ p. tileOf-account w) (λ p. account-shown ws z)
-
 module _ (m : ℕ) (s : State) (slots : length (s .slots) ≡ m) (b : Bed) (bytes : List ℕ) (e : fileCheck m bytes ≡ accepted) where
   tiles : List Tile
   tiles = map tileOf (fileWords bytes)
@@ -149,7 +143,7 @@ module _ (m : ℕ) (s : State) (slots : length (s .slots) ≡ m) (b : Bed) (byte
   unfolding tiles filled
   read-kept r = record {
     is = rw (read-list (r .valid), words-tiles (fileWords bytes), length-map (fileWords bytes) tileOf, r .length-words);
-    good = record { order = r .order; scanned = le-refl _; accounts = λ z h. account-shown (fileWords bytes) z; room = rw (read-list (r .valid), length-map (fileWords bytes) tileOf, r .length-words) (r .count) };
+    good = record { order = r .order; scanned = le-refl _; accounts = λ z h. accountAt-low (fileWords bytes) z; room = rw (read-list (r .valid), length-map (fileWords bytes) tileOf, r .length-words) (r .count) };
   }
 
   pub read-begins : Agrees m (step s (read bytes)) (plainStep m b (read bytes))

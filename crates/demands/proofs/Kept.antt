@@ -21,9 +21,8 @@ use Rattle.tile.proofs.TileLaws.{Packable}
 use Rattle.tile.proofs.SlotsLaws.{filled-length, tilesIn-filled}
 use Rattle.quadtree.specs.Raster.{accountAt, _∈_}
 use Rattle.quadtree.specs.Quadtree.{quadtree}
-use Rattle.quadtree.proofs.Alignment.{area-pos}
 use Rattle.quadtree.proofs.ValidLaws.{quadtree-valid, quadtree-shown}
-use Rattle.quadtree.proofs.Linear.{quadtree-largest, quadtree-linear}
+use Rattle.quadtree.proofs.Linear.{quadtree-largest, quadtree-low, quadtree-linear}
 use Rattle.quadtree.proofs.Least.{shows-least}
 use Rattle.list_check.specs.ListCheck.{listCheck}
 use Rattle.list_check.proofs.Accepts.{listCheck-filled}
@@ -43,11 +42,8 @@ pub record Kept (m : ℕ) (s : State) (b : Bed) : Type 0 where
   pub good : Good m (b .order) (b .scanned) (b .account)
 
 module _ {m : ℕ} (b : Bed) (w : Good m (b .order) (b .scanned) (b .account)) where
-  -- a tile of the bed has the account of its corner
   account-low : (t : Tile) → t ∈ quadtree (b .order) (b .account) → t .account ≤ highestAccount
-  account-low t i =
-      let l = quadtree-largest (b .order) (b .account) i in
-      omega (arith, l .uniform (t .corner) (omega arith) (omega (arith, area-pos (t .size))), w .accounts (t .corner) (l .quadrant .inside))
+  account-low = quadtree-low (b .order) (b .account) highestAccount (w .accounts)
 
   packable : (t : Tile) → t ∈ quadtree (b .order) (b .account) → Packable t
   packable t i = record { size = omega (arith, quadtree-largest (b .order) (b .account) i .quadrant .fits, w .order); account = account-low t i }

@@ -17,9 +17,9 @@ use Rattle.tile.specs.Slots.{tilesIn, filled}
 use Rattle.tile.proofs.SlotsLaws.{tilesIn-filled}
 use Rattle.quadtree.specs.Raster.{accountAt, _∈_}
 use Rattle.quadtree.specs.Quadtree.{quadtree}
-use Rattle.quadtree.proofs.Alignment.{area-pos, area-mono}
+use Rattle.quadtree.proofs.Alignment.{area-mono}
 use Rattle.quadtree.proofs.Blocks.{blank-quadtree}
-use Rattle.quadtree.proofs.Linear.{quadtree-largest}
+use Rattle.quadtree.proofs.Linear.{quadtree-largest, quadtree-low}
 use Rattle.bed.specs.declared.Kind.{Kind}
 use Rattle.bed.specs.declared.Kind.the-variants.{Rows}
 use Rattle.bed.specs.declared.Scan.{Scan}
@@ -125,22 +125,22 @@ lines-fit n number taken m ts h low =
     )
 
 module _ (m n s : ℕ) (f : ℕ → ℕ) (w : Good m n s f) (l : n ≤ listedOrder) where
-  quadtree-low : (t : Tile) → t ∈ quadtree n f → Low t
-  quadtree-low t i =
+  tiles-low : (t : Tile) → t ∈ quadtree n f → Low t
+  tiles-low t i =
       let q = quadtree-largest n f i in
       let g : 4 ^ n ≤ 4 ^ listedOrder = area-mono {k = listedOrder} l in
       record {
         corner = omega (arith, q .quadrant .inside);
         size = omega (arith, q .quadrant .fits);
-        account = omega (arith, q .uniform (t .corner) (omega arith) (omega (arith, area-pos (t .size))), w .accounts (t .corner) (q .quadrant .inside));
+        account = quadtree-low n f highestAccount (w .accounts) t i;
       }
 
   good-fits : (number taken : ℕ) → Fits m (fedListing (fedTo m (record { number = number; taken = taken; bed = bedOf Rows n s f })))
   unfolding fedListing fedTo
   good-fits number taken =
       let e : tilesIn (length (quadtree n f)) (filled m (quadtree n f)) ≡ quadtree n f =
-      tilesIn-filled m (quadtree n f) (λ t i. let o = quadtree-low t i in record { size = omega (arith, o .size); account = o .account }) in
-      rw e (lines-fit n number taken m (quadtree n f) (w .room) quadtree-low)
+      tilesIn-filled m (quadtree n f) (λ t i. let o = tiles-low t i in record { size = omega (arith, o .size); account = o .account }) in
+      rw e (lines-fit n number taken m (quadtree n f) (w .room) tiles-low)
 
 blank-good : (m n : ℕ) (slots : List ℕ) → n ≤ highestOrder → Good m n 0 (accountAt (tilesIn 0 slots))
 unfolding tilesIn accountAt

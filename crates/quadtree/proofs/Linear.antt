@@ -1,5 +1,6 @@
 -- The linear quadtree as a reader defines it: the executable quadtree satisfies the definition, and only that list does.
 --     quadtree-linear   `quadtree n f` is the linear quadtree of f
+--     quadtree-low      its accounts are no higher than those of the raster
 --     linear-unique     a linear quadtree of f is `quadtree n f`
 --     valid-linear      a valid list is the linear quadtree of the accounts that it shows
 --     valid-cover       in a valid list a uniform block of somebody's lies inside one tile
@@ -52,6 +53,11 @@ quadtree-largest n f {t} i =
     let p = placed (quadtree-tiling n f) i in
     let b = quadtree-top n f t i in
     record { quadrant = record { fits = b .fits; inside = omega (arith, p .upto, area-pos (t .size)); aligned = p .on .aligned; owned = p .on .owned }; uniform = p .on .uniform; top = b .top }
+
+pub quadtree-low : (n : ℕ) (f : ℕ → ℕ) (most : ℕ) → ((z : ℕ) → z < 4 ^ n → f z ≤ most) → (t : Tile) → t ∈ quadtree n f → t .account ≤ most
+quadtree-low n f most low t i =
+    let l = quadtree-largest n f i in
+    omega (arith, l .uniform (t .corner) (omega arith) (omega (arith, area-pos (t .size))), low (t .corner) (l .quadrant .inside))
 
 pub largest-quadtree : (n : ℕ) (f : ℕ → ℕ) {t : Tile} → Largest n f t → t ∈ quadtree n f
 largest-quadtree n f {t} b =

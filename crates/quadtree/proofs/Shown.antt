@@ -1,16 +1,18 @@
 -- What a tile list shows: `accountAt` of a list, of a tiling and of a painted raster.
 --     accountAt-first, -rest       the first tile decides where it covers, else the rest
 --     accountAt-tiling             a tiling of f shows f
+--     accountAt-low                words show accounts up to the highest
 --     paint-in, paint-out          a painted raster inside and outside of what was painted
 use mathlib.Core.Path.{_≡_, refl, sym, _∙_}
 use mathlib.Core.Bool.{_&&_}
-use mathlib.Core.List.{List, _∷_}
+use mathlib.Core.List.{List, [], _∷_, map}
 use Prim.Native.Nat.{ℕ, suc, _≤_, _<_}
 use native.Mathlib.Decide.{decLt}
 use native.Mathlib.Omega.{arith}
 use lib.Dec.{leb, ltb}
-use Rattle.basics.proofs.Tests.{Test, test-leb, test-and, choose-yes, choose-no}
-use Rattle.tile.specs.Tile.{Tile, stop}
+use Rattle.basics.proofs.Tests.{Test, test-leb, test-and, by-test, choose-yes, choose-no}
+use Rattle.tile.specs.Tile.{Tile, stop, tileOf, highestAccount}
+use Rattle.tile.proofs.TileLaws.{tileOf-account}
 use Rattle.quadtree.specs.Raster.{Covers, covers, accountAt, paint}
 use Rattle.quadtree.proofs.Tiling.{Tiling, none, next}
 
@@ -24,6 +26,11 @@ accountAt-first t ts z c = choose-yes (t .account) (accountAt ts z) (test-covers
 pub accountAt-rest : (t : Tile) (ts : List Tile) (z : ℕ) → (Covers t z → ⊥) → accountAt (t ∷ ts) z ≡ accountAt ts z
 unfolding accountAt
 accountAt-rest t ts z c = choose-no (t .account) (accountAt ts z) (test-covers t z) c
+
+pub accountAt-low : (ws : List ℕ) (z : ℕ) → accountAt (map tileOf ws) z ≤ highestAccount
+unfolding accountAt
+accountAt-low [] z = omega arith
+accountAt-low (w ∷ ws) z = by-test (λ (a : ℕ). a ≤ highestAccount) (test-covers (tileOf w) z) (λ c. tileOf-account w) (λ c. accountAt-low ws z)
 
 -- nothing is shown before the list starts
 accountAt-before : {f : ℕ → ℕ} {hi lo : ℕ} {ts : List Tile} → Tiling f hi lo ts → (z : ℕ) → z < lo → accountAt ts z ≡ 0

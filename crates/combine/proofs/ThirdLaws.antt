@@ -1,0 +1,71 @@
+-- What an accepted combine leaves.
+--     third-map   it is the third map that document 02 asks for, of two maps of one order
+use mathlib.Core.Path.{_≡_, refl, ap, sym, _∙_}
+use mathlib.Core.List.{List, [], _∷_, map}
+use Prim.Native.Nat.{ℕ, zero, suc, _+_, _-_, _^_, _≤_, _<_}
+use native.Mathlib.Omega.{arith}
+use lib.ListN.{length, take, drop, replicate, length-map}
+use lib.Seq.{drop-at}
+use Rattle.basics.proofs.Tests.{test-leb}
+use Rattle.refusal.specs.Refusal.{accepted}
+use Rattle.refusal.specs.Checks.{unless, After}
+use Rattle.refusal.proofs.CheckLaws.{must-inv, else-inv, unless-on}
+use Rattle.tile.specs.Tile.{Tile, tileOf, wordOf, highestOrder, highestAccount}
+use Rattle.tile.specs.Slots.{tilesIn, filled}
+use Rattle.tile.proofs.TileLaws.{Packable, tileOf-account}
+use Rattle.tile.proofs.SlotsLaws.{filled-length, tilesIn-filled}
+use Rattle.quadtree.specs.Raster.{accountAt, _∈_}
+use Rattle.quadtree.proofs.Linear.{quadtree-largest, quadtree-low}
+use Rattle.quadtree.proofs.Laws.{linear, valid, round-trip, minimum}
+use Rattle.quadtree.proofs.Shown.{accountAt-low}
+use Rattle.list_check.proofs.Accepts.{listCheck-filled}
+use Rattle.combine_rule.specs.declared.Choice.{Choice}
+use Rattle.combine_rule.specs.Rule.{combined}
+use Rattle.combine_rule.proofs.RuleCases.{rule-low}
+use Rattle.combine.specs.declared.Combined.{Combined}
+use Rattle.combine.specs.Combine.{combinedList, mapsCheck, combineRefusal, combineOf}
+use Rattle.combine.specs.ThirdMap.{ThirdMap}
+use Rattle.combine.proofs.CombineLaws.{maps-passed}
+
+-- an accepted answer is of no refusal
+unless-accepted : (r : ℕ) (out : List ℕ) (y : After Combined) → unless r (λ number. record { answer = record { number = number; tiles = 0 }; storage = out }) y .answer .number ≡ accepted → r ≡ accepted
+unfolding unless
+unless-accepted zero out y e = refl
+unless-accepted (suc r) out y e = e
+
+module _ (choice : Choice) (n t : ℕ) (s : List ℕ) (u : ℕ) (w : List ℕ) where
+  abbrev ts : List Tile
+  ts = combinedList choice n t s u w
+
+  accounts : (z : ℕ) → z < 4 ^ n → combined choice t s u w z ≤ highestAccount
+  unfolding tilesIn
+  accounts z h = rule-low choice _ _ (accountAt-low (take t s) z) (accountAt-low (take u w) z)
+
+  account-low : (v : Tile) → v ∈ ts → v .account ≤ highestAccount
+  account-low = quadtree-low n (combined choice t s u w) highestAccount accounts
+
+  packable : n ≤ highestOrder → (v : Tile) → v ∈ ts → Packable v
+  packable o v i = record { size = omega (arith, quadtree-largest n (combined choice t s u w) i .quadrant .fits); account = account-low v i }
+
+  left : n ≤ highestOrder → (out : List ℕ) → length ts ≤ length out → ThirdMap choice n t s u w out (record { answer = record { number = accepted; tiles = length ts }; storage = filled (length out) ts })
+  unfolding filled
+  left o out h =
+      let e : tilesIn (length ts) (filled (length out) ts) ≡ ts = tilesIn-filled (length out) ts (packable o) in
+      record {
+        lent = filled-length (length out) ts h;
+        rest = drop-at (map wordOf ts) (replicate (length out - length ts) 0) (length ts) (length-map ts wordOf);
+        checks = listCheck-filled n (length out) ts o h account-low (valid n (combined choice t s u w));
+        pixels = λ z l. ap (λ (us : List Tile). accountAt us z) e ∙ round-trip n (combined choice t s u w) z l;
+        linear = rw e (linear n (combined choice t s u w));
+        least = λ us q. minimum q;
+      }
+
+pub third-map : (choice : Choice) (n t : ℕ) (s : List ℕ) (m u : ℕ) (w out : List ℕ) → combineOf choice n t s m u w out .answer .number ≡ accepted →
+    (n ≡ m) × ThirdMap choice n t s u w out (combineOf choice n t s m u w out)
+unfolding combineOf combineRefusal
+third-map choice n t s m u w out e =
+    let r = unless-accepted (combineRefusal choice n t s m u w out) out _ e in
+    let p = else-inv (mapsCheck n t s m u w) _ r in
+    let q = maps-passed n t s m u w (p .0) in
+    let h = must-inv (test-leb (length (combinedList choice n t s u w)) (length out)) (omega arith) (p .1) .0 in
+    (q .1, rw (unless-on (combineRefusal choice n t s m u w out) _ _ r) (left choice n t s u w (q .0 .few) out h))
