@@ -57,16 +57,14 @@ fn count(
     ensures { λ r. ⌜ r ≡ length (combinedList choice order tiles1 (now (slots1 .entry)) tiles2 (now (slots2 .entry))) ⌝ }
 {
     let end = tile::area(order);
+    let mut step = combine_walk::next_step(choice, end, tiles1, slots1, tiles2, slots2, 0, 0, 0);
     let mut z: u32 = 0;
-    let mut i: usize = 0;
-    let mut j: usize = 0;
     let mut count: usize = 0;
     while z < end {
-        let run = combine_walk::next_run(choice, end, tiles1, slots1, tiles2, slots2, i, j, z);
-        count += list_cut::count_run(z, run.stop, run.account);
+        let run = combine_walk::next_run(choice, end, tiles1, slots1, tiles2, slots2, step, z);
+        count += list_cut::count_run(z, run.stop, step.account);
         z = run.stop;
-        i = run.first;
-        j = run.second;
+        step = run.next;
     }
     count
 }
@@ -87,16 +85,14 @@ fn write(
         (map wordOf (combinedList choice order tiles1 (now (slots1 .entry)) tiles2 (now (slots2 .entry)))) ⌝ }
 {
     let end = tile::area(order);
+    let mut step = combine_walk::next_step(choice, end, tiles1, slots1, tiles2, slots2, 0, 0, 0);
     let mut z: u32 = 0;
-    let mut i: usize = 0;
-    let mut j: usize = 0;
     let mut at: usize = 0;
     while z < end {
-        let run = combine_walk::next_run(choice, end, tiles1, slots1, tiles2, slots2, i, j, z);
-        at = list_cut::put_run(out, at, z, run.stop, run.account);
+        let run = combine_walk::next_run(choice, end, tiles1, slots1, tiles2, slots2, step, z);
+        at = list_cut::put_run(out, at, z, run.stop, step.account);
         z = run.stop;
-        i = run.first;
-        j = run.second;
+        step = run.next;
     }
 }
 

@@ -41,11 +41,11 @@ module _ {f : ℕ → ℕ} {end t : ℕ} {s : List ℕ} {u : ℕ} {w : List ℕ}
     both = q .both;
   }
 
-  whole : StepOf f end t s u w z (record { account = a; stop = e; first = i; second = j }) → Ended f end a e → RunOf f end t s u w z (record { account = a; stop = e; first = i; second = j })
-  whole p h = record { run = record { some = p .stretch .some; room = p .stretch .room; uniform = p .stretch .uniform; ended = h }; low = p .stretch .low; both = p .both }
+  whole : StepOf f end t s u w z (record { account = a; stop = e; first = i; second = j }) → Ended f end a e → (r : Step) → (e < end → StepOf f end t s u w e r) → RunOf f end t s u w z a (record { stop = e; next = r })
+  whole p h r g = record { run = record { some = p .stretch .some; room = p .stretch .room; uniform = p .stretch .uniform; ended = h }; low = p .stretch .low; ahead = g }
 
-  pub run-other : {r : Step} → StepOf f end t s u w z (record { account = a; stop = e; first = i; second = j }) → StepOf f end t s u w e r → (r .account ≡ a → ⊥) → RunOf f end t s u w z (record { account = a; stop = e; first = i; second = j })
-  run-other p q k = whole p (λ l m. k (sym (q .stretch .uniform e (omega arith) (q .stretch .some)) ∙ m))
+  pub run-other : {r : Step} → StepOf f end t s u w z (record { account = a; stop = e; first = i; second = j }) → StepOf f end t s u w e r → (r .account ≡ a → ⊥) → RunOf f end t s u w z a (record { stop = e; next = r })
+  run-other {r} p q k = whole p (λ l m. k (sym (q .stretch .uniform e (omega arith) (q .stretch .some)) ∙ m)) r (λ l. q)
 
-  pub run-all : StepOf f end t s u w z (record { account = a; stop = e; first = i; second = j }) → end ≤ e → RunOf f end t s u w z (record { account = a; stop = e; first = i; second = j })
-  run-all p h = whole p (λ l m. omega arith)
+  pub run-all : (r : Step) → StepOf f end t s u w z (record { account = a; stop = e; first = i; second = j }) → end ≤ e → RunOf f end t s u w z a (record { stop = e; next = r })
+  run-all r p h = whole p (λ l m. omega arith) r (λ l. absurd (omega arith))

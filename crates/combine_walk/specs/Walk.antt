@@ -4,7 +4,8 @@
 --     Stretch f end z a e    from z up to e the raster f has the account a
 --     PieceOf end t s z r    r is such a stretch of one list, with its cursor
 --     Both                   the cursors of two lists
---     StepOf, RunOf          such a stretch, or a whole run, of the raster f that two lists make, and their cursors there
+--     StepOf                 such a stretch of the raster f that two lists make, and their cursors at its end
+--     RunOf f .. z a r       from z on f has a whole run of the account a; r has its end and the next step there
 use mathlib.Core.List.{List}
 use Prim.Native.Nat.{ℕ, _≤_, _<_}
 use lib.ListN.{length, drop}
@@ -15,6 +16,7 @@ use Rattle.quadtree.specs.Tiling.{Tiling}
 use Rattle.quadtree.specs.Runs.{RunAt}
 use Rattle.combine_walk.specs.declared.Piece.{Piece}
 use Rattle.combine_walk.specs.declared.Step.{Step}
+use Rattle.combine_walk.specs.declared.Run.{Run}
 
 pub record Past (g : ℕ → ℕ) (end z : ℕ) (us : List Tile) : Type 0 where
   pub lo : ℕ
@@ -44,7 +46,7 @@ pub record StepOf (f : ℕ → ℕ) (end t : ℕ) (s : List ℕ) (u : ℕ) (w : 
   pub stretch : Stretch f end z (r .account) (r .stop)
   pub both : Both end t s u w (r .stop) (r .first) (r .second)
 
-pub record RunOf (f : ℕ → ℕ) (end t : ℕ) (s : List ℕ) (u : ℕ) (w : List ℕ) (z : ℕ) (r : Step) : Type 0 where
-  pub run : RunAt f end z (r .account) (r .stop)
-  pub low : r .account ≤ highestAccount
-  pub both : Both end t s u w (r .stop) (r .first) (r .second)
+pub record RunOf (f : ℕ → ℕ) (end t : ℕ) (s : List ℕ) (u : ℕ) (w : List ℕ) (z a : ℕ) (r : Run) : Type 0 where
+  pub run : RunAt f end z a (r .stop)
+  pub low : a ≤ highestAccount
+  pub ahead : r .stop < end → StepOf f end t s u w (r .stop) (r .next)

@@ -13,12 +13,18 @@ pub struct Piece {
     pub at: usize,
 }
 
-// A stretch of the combined map: its account, where it ends, and the cursors of both lists.
+// A stretch of the combined map: its account, where it ends, and the cursors of both lists there.
 pub struct Step {
     pub account: u8,
     pub stop: u32,
     pub first: usize,
     pub second: usize,
+}
+
+// A run of the combined map: where it ends, and the step that begins the next one, if it ends before the bed does.
+pub struct Run {
+    pub stop: u32,
+    pub next: Step,
 }
 
 fn least(a: u32, b: u32) -> u32
@@ -61,7 +67,7 @@ fn next_piece(end: u32, tiles: usize, slots: &[u32], i: usize, z: u32) -> Piece
 }
 
 // The stretch of the combined map from z on, up to where either map's stretch ends.
-fn next_step(
+pub fn next_step(
     choice: Choice,
     end: u32,
     tiles1: usize,
@@ -90,7 +96,7 @@ fn next_step(
     }
 }
 
-// The run of the combined map from z on: steps of one account taken together.
+// The run of the combined map from z on, of which `step` is the beginning: steps of one account taken together.
 pub fn next_run(
     choice: Choice,
     end: u32,
@@ -98,19 +104,18 @@ pub fn next_run(
     slots1: &[u32],
     tiles2: usize,
     slots2: &[u32],
-    i: usize,
-    j: usize,
+    step: Step,
     z: u32,
-) -> Step
-    requires { ⌜ (z < end) × Both end tiles1 (now slots1) tiles2 (now slots2) z i j ⌝ }
+) -> Run
+    requires { ⌜ StepOf (combined choice tiles1 (now slots1) tiles2 (now slots2)) end
+        tiles1 (now slots1) tiles2 (now slots2) z step ⌝ }
     ensures { λ r. ⌜ RunOf (combined choice tiles1 (now (slots1 .entry)) tiles2 (now (slots2 .entry))) end
-        tiles1 (now (slots1 .entry)) tiles2 (now (slots2 .entry)) z r ⌝ }
+        tiles1 (now (slots1 .entry)) tiles2 (now (slots2 .entry)) z (step .account) r ⌝ }
 {
-    let start = next_step(choice, end, tiles1, slots1, tiles2, slots2, i, j, z);
-    let account = start.account;
-    let mut stop = start.stop;
-    let mut first = start.first;
-    let mut second = start.second;
+    let account = step.account;
+    let mut stop = step.stop;
+    let mut first = step.first;
+    let mut second = step.second;
     while stop < end {
         let more = next_step(
             choice,
@@ -124,21 +129,11 @@ pub fn next_run(
             stop,
         );
         if more.account != account {
-            return Step {
-                account,
-                stop,
-                first,
-                second,
-            };
+            return Run { stop, next: more };
         }
         stop = more.stop;
         first = more.first;
         second = more.second;
     }
-    Step {
-        account,
-        stop,
-        first,
-        second,
-    }
+    Run { stop, next: step }
 }
