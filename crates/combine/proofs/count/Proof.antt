@@ -38,9 +38,10 @@ area-requires c κs = omega (arith, c .before .before .pre .few)
 next-step-requires : tie.Need-next-step-requires Inv-loop μ-loop
 next-step-requires c κs =
     let pre = c .before .before .before .pre in
-    let area = c .area in
-    (omega (arith, area .ensures, area-pos (c .before .before .before .args .order)),
-    record { first = stands-start _ (area .ensures) (pre .within1) (pre .valid1); second = stands-start _ (area .ensures) (pre .within2) (pre .valid2) })
+    let area = c .area in (
+      omega (arith, area .ensures, area-pos (c .before .before .before .args .order)),
+      record { first = stands-start _ (area .ensures) (pre .within1) (pre .valid1); second = stands-start _ (area .ensures) (pre .within2) (pre .valid2) },
+    )
 
 next-run-requires : tie.Need-next-run-requires Inv-loop μ-loop
 next-run-requires c κs = c .before .loop .inv .0 (c .loop-test .taken)

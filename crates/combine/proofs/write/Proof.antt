@@ -43,9 +43,10 @@ area-requires c κs = omega (arith, c .before .before .before .pre .0 .few)
 next-step-requires : tie.Need-next-step-requires Inv-loop μ-loop
 next-step-requires c κs =
     let pre = c .before .before .before .before .pre .0 in
-    let area = c .area in
-    (omega (arith, area .ensures, area-pos (c .before .before .before .before .args .order)),
-    record { first = stands-start _ (area .ensures) (pre .within1) (pre .valid1); second = stands-start _ (area .ensures) (pre .within2) (pre .valid2) })
+    let area = c .area in (
+      omega (arith, area .ensures, area-pos (c .before .before .before .before .args .order)),
+      record { first = stands-start _ (area .ensures) (pre .within1) (pre .valid1); second = stands-start _ (area .ensures) (pre .within2) (pre .valid2) },
+    )
 
 next-run-requires : tie.Need-next-run-requires Inv-loop μ-loop
 next-run-requires c κs = c .before .loop .inv .0 (c .loop-test .taken)
@@ -54,9 +55,12 @@ put-run-requires : tie.Need-put-run-requires Inv-loop μ-loop
 put-run-requires c κs =
     let pre = c .before .before .before .before .before .before .before .before .before .pre in
     let area = c .before .before .before .before .before .area in
-    let run = c .before .next-run .ensures in
-    (omega (arith, run .run .some), run-room (pre .0 .few) (area .ensures) (run .run), run .low,
-    written-room (pre .0 .few) (area .ensures) (run .run) (c .before .before .before .loop .inv .1) (pre .1))
+    let run = c .before .next-run .ensures in (
+      omega (arith, run .run .some),
+      run-room (pre .0 .few) (area .ensures) (run .run),
+      run .low,
+      written-room (pre .0 .few) (area .ensures) (run .run) (c .before .before .before .loop .inv .1) (pre .1),
+    )
 
 pub write-spec : {M : Type 1} → statement M
 write-spec =

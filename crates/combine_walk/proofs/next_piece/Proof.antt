@@ -32,7 +32,7 @@ returns-2 c =
     let loop = c .before .before .before .before .before .before .before .loop in
     let loop-test = c .before .before .before .before .before .before .loop-test in
     piece-on (loop .inv) (loop-test .taken) _ refl _ _ (c .before .before .before .before .stop .ensures) (c .account .ensures) (omega (arith, c .before .before .corner .ensures))
-    (c .before .before .before .if1 .taken)
+    (omega (arith, c .before .before .before .if1 .taken))
 
 returns-3 : tie.Need-returns-3 Inv-loop μ-loop
 returns-3 c = piece-none (c .before .loop .inv) (c .loop-test .left) (c .before .before .before .pre .0)
