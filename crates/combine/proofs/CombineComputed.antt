@@ -7,11 +7,11 @@ use Rattle.quadtree.specs.Raster.{aligned, uniform, accountAt}
 use Rattle.quadtree.specs.Quadtree.{single, four, blocks, quadtree}
 use Rattle.list_check.specs.ListCheck.{follows, lastOfFour, ended, soundCheck, wordCheck, wordsCheck, listCheck}
 use Rattle.combine_rule.specs.Rule.{ruleOf}
-use Rattle.combine.specs.Combine.{mapsCheck, combineRefusal, combineOf}
-use Rattle.combine.specs.Worked.{bedM, zones, lent, CombineLines}
+use Rattle.combine.specs.Combine.{mapsCheck, combineRefusal, combineBy}
+use Rattle.combine.specs.Worked.{bedM, zones, threeSlots, CombineLines}
 
 pub combine-lines : CombineLines
-unfolding must orElse unless wordOf tileOf tilesIn filled aligned uniform accountAt single four blocks quadtree follows lastOfFour ended soundCheck wordCheck wordsCheck listCheck ruleOf mapsCheck combineRefusal combineOf bedM zones lent
+unfolding must orElse unless wordOf tileOf tilesIn filled aligned uniform accountAt single four blocks quadtree follows lastOfFour ended soundCheck wordCheck wordsCheck listCheck ruleOf mapsCheck combineRefusal combineBy bedM zones threeSlots
 combine-lines = record {
   inside = refl;
   outside = refl;

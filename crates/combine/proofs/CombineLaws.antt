@@ -1,7 +1,7 @@
--- What the offered call gives, by how its checks end.
+-- What the call gives by any rule, by how its checks end.
 --     maps-passed                               two maps that pass their checks
 --     maps-first, -second, -orders, -accepted   these checks, by how each ends
---     combineOf-refused, -slots, -done          the call refused by them, refused by 25, and accepted
+--     combineBy-refused, -slots, -done          the call refused by them, refused by 25, and accepted
 use mathlib.Core.Path.{_≡_, refl, sym, _∙_}
 use mathlib.Core.List.{List, _++_, map}
 use Prim.Native.Nat.{ℕ, _-_, _≤_, _<_}
@@ -16,8 +16,7 @@ use Rattle.tile.specs.Tile.{wordOf}
 use Rattle.list_check.specs.ListCheck.{listCheck}
 use Rattle.list_check.proofs.Accepts.{listCheck-valid}
 use Rattle.list_cut.proofs.Passes.{filled-words}
-use Rattle.combine_rule.specs.declared.Choice.{Choice}
-use Rattle.combine.specs.Combine.{combinedList, mapsCheck, combineRefusal, combineOf}
+use Rattle.combine.specs.Combine.{thirdTiles, mapsCheck, combineRefusal, combineBy}
 use Rattle.combine.specs.Maps.{Maps}
 
 module _ (n t : ℕ) (s : List ℕ) (m u : ℕ) (w : List ℕ) where
@@ -49,33 +48,33 @@ module _ (n t : ℕ) (s : List ℕ) (m u : ℕ) (w : List ℕ) where
       unfolding mapsCheck
       maps-accepted h = rw (else-on (listCheck n t s) _ g, else-on (listCheck m u w) _ k) (sym (must-on ordersDiffer accepted (test-eqb n m) h))
 
-module _ (choice : Choice) (n t : ℕ) (s : List ℕ) (m u : ℕ) (w out : List ℕ) where
-  refused : (r : ℕ) → combineRefusal choice n t s m u w out ≡ r → (r ≡ accepted → ⊥) → Gives (record { number = r; tiles = 0 }) out (combineOf choice n t s m u w out)
-  unfolding combineOf
+module _ (rule : ℕ → ℕ → ℕ) (n t : ℕ) (s : List ℕ) (m u : ℕ) (w out : List ℕ) where
+  refused : (r : ℕ) → combineRefusal rule n t s m u w out ≡ r → (r ≡ accepted → ⊥) → Gives (record { number = r; tiles = 0 }) out (combineBy rule n t s m u w out)
+  unfolding combineBy
   refused r e h = sym (rw e (unless-off r _ _ h))
 
-  first-refusal : (r : ℕ) → r ≡ mapsCheck n t s m u w → (r ≡ accepted → ⊥) → combineRefusal choice n t s m u w out ≡ r
+  first-refusal : (r : ℕ) → r ≡ mapsCheck n t s m u w → (r ≡ accepted → ⊥) → combineRefusal rule n t s m u w out ≡ r
   unfolding combineRefusal
   first-refusal r e h = rw (← e) (else-off r _ h)
 
-  pub combineOf-refused : (r : ℕ) → r ≡ mapsCheck n t s m u w → (r ≡ accepted → ⊥) → Gives (record { number = r; tiles = 0 }) out (combineOf choice n t s m u w out)
-  combineOf-refused r e h = refused r (first-refusal r e h) h
+  pub combineBy-refused : (r : ℕ) → r ≡ mapsCheck n t s m u w → (r ≡ accepted → ⊥) → Gives (record { number = r; tiles = 0 }) out (combineBy rule n t s m u w out)
+  combineBy-refused r e h = refused r (first-refusal r e h) h
 
   module _ (g : mapsCheck n t s m u w ≡ accepted) where
-    slots-refusal : length out < length (combinedList choice n t s u w) → combineRefusal choice n t s m u w out ≡ slotsExceeded
+    slots-refusal : length out < length (thirdTiles rule n t s u w) → combineRefusal rule n t s m u w out ≡ slotsExceeded
     unfolding combineRefusal
-    slots-refusal h = else-on (mapsCheck n t s m u w) _ g ∙ must-off slotsExceeded accepted (test-leb (length (combinedList choice n t s u w)) (length out)) (λ l. omega arith)
+    slots-refusal h = else-on (mapsCheck n t s m u w) _ g ∙ must-off slotsExceeded accepted (test-leb (length (thirdTiles rule n t s u w)) (length out)) (λ l. omega arith)
 
-    pub combineOf-slots : length out < length (combinedList choice n t s u w) → Gives (record { number = slotsExceeded; tiles = 0 }) out (combineOf choice n t s m u w out)
-    combineOf-slots h = refused slotsExceeded (slots-refusal h) (λ e. omega arith)
+    pub combineBy-slots : length out < length (thirdTiles rule n t s u w) → Gives (record { number = slotsExceeded; tiles = 0 }) out (combineBy rule n t s m u w out)
+    combineBy-slots h = refused slotsExceeded (slots-refusal h) (λ e. omega arith)
 
-    no-refusal : length (combinedList choice n t s u w) ≤ length out → combineRefusal choice n t s m u w out ≡ accepted
+    no-refusal : length (thirdTiles rule n t s u w) ≤ length out → combineRefusal rule n t s m u w out ≡ accepted
     unfolding combineRefusal
-    no-refusal h = else-on (mapsCheck n t s m u w) _ g ∙ must-on slotsExceeded accepted (test-leb (length (combinedList choice n t s u w)) (length out)) h
+    no-refusal h = else-on (mapsCheck n t s m u w) _ g ∙ must-on slotsExceeded accepted (test-leb (length (thirdTiles rule n t s u w)) (length out)) h
 
     -- the words written, and the slots behind them cleared
-    pub combineOf-done : (c : ℕ) {mid end : List ℕ} → c ≡ length (combinedList choice n t s u w) → c ≤ length out →
-        mid ≡ sets out 0 (map wordOf (combinedList choice n t s u w)) → end ≡ take c mid ++ replicate (length mid - c) 0 →
-        Gives (record { number = accepted; tiles = c }) end (combineOf choice n t s m u w out)
-    unfolding combineOf
-    combineOf-done c e h x y = rw (filled-words (combinedList choice n t s u w) out c e h x y, e, no-refusal (omega arith)) (sym (unless-on accepted _ _ refl))
+    pub combineBy-done : (c : ℕ) {mid end : List ℕ} → c ≡ length (thirdTiles rule n t s u w) → c ≤ length out →
+        mid ≡ sets out 0 (map wordOf (thirdTiles rule n t s u w)) → end ≡ take c mid ++ replicate (length mid - c) 0 →
+        Gives (record { number = accepted; tiles = c }) end (combineBy rule n t s m u w out)
+    unfolding combineBy
+    combineBy-done c e h x y = rw (filled-words (thirdTiles rule n t s u w) out c e h x y, e, no-refusal (omega arith)) (sym (unless-on accepted _ _ refl))

@@ -1,5 +1,6 @@
 -- What an accepted combine leaves.
---     third-map   it is the third map that document 02 asks for, of two maps of one order
+--     third-map          by any rule that makes accounts: it is the third map of two maps of one order
+--     third-map-choice   by the rule of a choice: it is the one that document 02 asks for
 use mathlib.Core.Path.{_≡_, refl, ap, sym, _∙_}
 use mathlib.Core.List.{List, [], _∷_, map}
 use Prim.Native.Nat.{ℕ, zero, suc, _+_, _-_, _^_, _≤_, _<_}
@@ -20,10 +21,10 @@ use Rattle.quadtree.proofs.Laws.{linear, valid, round-trip, minimum}
 use Rattle.quadtree.proofs.Shown.{accountAt-low}
 use Rattle.list_check.proofs.Accepts.{listCheck-filled}
 use Rattle.combine_rule.specs.declared.Choice.{Choice}
-use Rattle.combine_rule.specs.Rule.{combined}
-use Rattle.combine_rule.proofs.RuleCases.{rule-low}
+use Rattle.combine_rule.specs.Rule.{ruleOf, MakesAccounts, thirdRaster}
+use Rattle.combine_rule.proofs.RuleCases.{rule-accounts}
 use Rattle.combine.specs.declared.Combined.{Combined}
-use Rattle.combine.specs.Combine.{combinedList, mapsCheck, combineRefusal, combineOf}
+use Rattle.combine.specs.Combine.{thirdTiles, mapsCheck, combineRefusal, combineBy, combineOf}
 use Rattle.combine.specs.ThirdMap.{ThirdMap}
 use Rattle.combine.proofs.CombineLaws.{maps-passed}
 
@@ -33,39 +34,43 @@ unfolding unless
 unless-accepted zero out y e = refl
 unless-accepted (suc r) out y e = e
 
-module _ (choice : Choice) (n t : ℕ) (s : List ℕ) (u : ℕ) (w : List ℕ) where
+module _ {rule : ℕ → ℕ → ℕ} (makes : MakesAccounts rule) (n t : ℕ) (s : List ℕ) (u : ℕ) (w : List ℕ) where
   abbrev ts : List Tile
-  ts = combinedList choice n t s u w
+  ts = thirdTiles rule n t s u w
 
-  accounts : (z : ℕ) → z < 4 ^ n → combined choice t s u w z ≤ highestAccount
+  accounts : (z : ℕ) → z < 4 ^ n → thirdRaster rule t s u w z ≤ highestAccount
   unfolding tilesIn
-  accounts z h = rule-low choice _ _ (accountAt-low (take t s) z) (accountAt-low (take u w) z)
+  accounts z h = makes _ _ (accountAt-low (take t s) z) (accountAt-low (take u w) z)
 
   account-low : (v : Tile) → v ∈ ts → v .account ≤ highestAccount
-  account-low = quadtree-low n (combined choice t s u w) highestAccount accounts
+  account-low = quadtree-low n (thirdRaster rule t s u w) highestAccount accounts
 
   packable : n ≤ highestOrder → (v : Tile) → v ∈ ts → Packable v
-  packable o v i = record { size = omega (arith, quadtree-largest n (combined choice t s u w) i .quadrant .fits); account = account-low v i }
+  packable o v i = record { size = omega (arith, quadtree-largest n (thirdRaster rule t s u w) i .quadrant .fits); account = account-low v i }
 
-  left : n ≤ highestOrder → (out : List ℕ) → length ts ≤ length out → ThirdMap choice n t s u w out (record { answer = record { number = accepted; tiles = length ts }; storage = filled (length out) ts })
+  left : n ≤ highestOrder → (out : List ℕ) → length ts ≤ length out → ThirdMap rule n t s u w out (record { answer = record { number = accepted; tiles = length ts }; storage = filled (length out) ts })
   unfolding filled
   left o out h =
       let e : tilesIn (length ts) (filled (length out) ts) ≡ ts = tilesIn-filled (length out) ts (packable o) in
       record {
         lent = filled-length (length out) ts h;
         rest = drop-at (map wordOf ts) (replicate (length out - length ts) 0) (length ts) (length-map ts wordOf);
-        checks = listCheck-filled n (length out) ts o h account-low (valid n (combined choice t s u w));
-        pixels = λ z l. ap (λ (us : List Tile). accountAt us z) e ∙ round-trip n (combined choice t s u w) z l;
-        linear = rw e (linear n (combined choice t s u w));
+        checks = listCheck-filled n (length out) ts o h account-low (valid n (thirdRaster rule t s u w));
+        pixels = λ z l. ap (λ (us : List Tile). accountAt us z) e ∙ round-trip n (thirdRaster rule t s u w) z l;
+        linear = rw e (linear n (thirdRaster rule t s u w));
         least = λ us q. minimum q;
       }
 
-pub third-map : (choice : Choice) (n t : ℕ) (s : List ℕ) (m u : ℕ) (w out : List ℕ) → combineOf choice n t s m u w out .answer .number ≡ accepted →
-    (n ≡ m) × ThirdMap choice n t s u w out (combineOf choice n t s m u w out)
-unfolding combineOf combineRefusal
-third-map choice n t s m u w out e =
-    let r = unless-accepted (combineRefusal choice n t s m u w out) out _ e in
+pub third-map : (rule : ℕ → ℕ → ℕ) → MakesAccounts rule → (n t : ℕ) (s : List ℕ) (m u : ℕ) (w out : List ℕ) → combineBy rule n t s m u w out .answer .number ≡ accepted →
+    (n ≡ m) × ThirdMap rule n t s u w out (combineBy rule n t s m u w out)
+unfolding combineBy combineRefusal
+third-map rule makes n t s m u w out e =
+    let r = unless-accepted (combineRefusal rule n t s m u w out) out _ e in
     let p = else-inv (mapsCheck n t s m u w) _ r in
     let q = maps-passed n t s m u w (p .0) in
-    let h = must-inv (test-leb (length (combinedList choice n t s u w)) (length out)) (omega arith) (p .1) .0 in
-    (q .1, rw (unless-on (combineRefusal choice n t s m u w out) _ _ r) (left choice n t s u w (q .0 .few) out h))
+    let h = must-inv (test-leb (length (thirdTiles rule n t s u w)) (length out)) (omega arith) (p .1) .0 in
+    (q .1, rw (unless-on (combineRefusal rule n t s m u w out) _ _ r) (left makes n t s u w (q .0 .few) out h))
+
+pub third-map-choice : (choice : Choice) (n t : ℕ) (s : List ℕ) (m u : ℕ) (w out : List ℕ) → combineOf choice n t s m u w out .answer .number ≡ accepted →
+    (n ≡ m) × ThirdMap (ruleOf choice) n t s u w out (combineOf choice n t s m u w out)
+third-map-choice choice = third-map (ruleOf choice) (rule-accounts choice)

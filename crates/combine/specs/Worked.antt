@@ -20,27 +20,28 @@ unfoldable pub zones : List ℕ
 zones = 67 ∷ 12355 ∷ 0 ∷ []
 
 -- what a call gives: its number, the tile count, and what the third slice holds
-abbrev pub gives : ℕ → ℕ → List ℕ → After Combined
-gives number count out = record { answer = record { number = number; tiles = count }; storage = out }
+abbrev pub answered : ℕ → ℕ → List ℕ → After Combined
+answered number count out = record { answer = record { number = number; tiles = count }; storage = out }
 
 -- three slots that hold something
-unfoldable pub lent : List ℕ
-lent = 1 ∷ 2 ∷ 3 ∷ []
+unfoldable pub threeSlots : List ℕ
+threeSlots = 1 ∷ 2 ∷ 3 ∷ []
 
 pub record CombineLines : Type 0 where
   -- M's pixels inside the zones, and those outside
-  pub inside : combineOf Inside 2 4 bedM 2 2 zones lent ≡ gives accepted 2 (69 ∷ 12361 ∷ 0 ∷ [])
-  pub outside : combineOf Outside 2 4 bedM 2 2 zones lent ≡ gives accepted 2 (7177 ∷ 8201 ∷ 0 ∷ [])
+  pub inside : combineOf Inside 2 4 bedM 2 2 zones threeSlots ≡ answered accepted 2 (69 ∷ 12361 ∷ 0 ∷ [])
+  pub outside : combineOf Outside 2 4 bedM 2 2 zones threeSlots ≡ answered accepted 2 (7177 ∷ 8201 ∷ 0 ∷ [])
   -- the other way round the account is the zones': the rule keeps the first map's
-  pub zones-inside : combineOf Inside 2 2 zones 2 4 bedM lent ≡ gives accepted 2 (67 ∷ 12355 ∷ 0 ∷ [])
+  pub zones-inside : combineOf Inside 2 2 zones 2 4 bedM threeSlots ≡ answered accepted 2 (67 ∷ 12355 ∷ 0 ∷ [])
   -- a map with itself: all of it, and nothing
-  pub itself : combineOf Inside 2 2 zones 2 2 zones lent ≡ gives accepted 2 (67 ∷ 12355 ∷ 0 ∷ [])
-  pub nothing : combineOf Outside 2 2 zones 2 2 zones lent ≡ gives accepted 0 (0 ∷ 0 ∷ 0 ∷ [])
+  pub itself : combineOf Inside 2 2 zones 2 2 zones threeSlots ≡ answered accepted 2 (67 ∷ 12355 ∷ 0 ∷ [])
+  pub nothing : combineOf Outside 2 2 zones 2 2 zones threeSlots ≡ answered accepted 0 (0 ∷ 0 ∷ 0 ∷ [])
   -- held by one account, the bed stays one tile inside zones of several accounts that cover it: 7 over 1 2 / 1 2
-  pub covered : combineOf Inside 2 1 (135 ∷ []) 2 4 (65 ∷ 4162 ∷ 8257 ∷ 12354 ∷ []) lent ≡ gives accepted 1 (135 ∷ 0 ∷ 0 ∷ [])
+  pub covered : combineOf Inside 2 1 (135 ∷ []) 2 4 (65 ∷ 4162 ∷ 8257 ∷ 12354 ∷ []) threeSlots
+      ≡ answered accepted 1 (135 ∷ 0 ∷ 0 ∷ [])
   -- four tiles of M lie outside an empty map of zones: three slots are too few
-  pub too-few : combineOf Outside 2 4 bedM 2 0 [] lent ≡ gives slotsExceeded 0 lent
+  pub too-few : combineOf Outside 2 4 bedM 2 0 [] threeSlots ≡ answered slotsExceeded 0 threeSlots
   -- the first map's refusal comes first, then the second's, then the orders
-  pub first-first : combineOf Inside 2 3 zones 2 2 (67 ∷ 67 ∷ []) lent ≡ gives accountZero 0 lent
-  pub second-then : combineOf Inside 2 2 zones 1 2 (67 ∷ 67 ∷ []) lent ≡ gives tilesOverlap 0 lent
-  pub orders : combineOf Inside 2 2 zones 3 2 zones [] ≡ gives ordersDiffer 0 []
+  pub first-first : combineOf Inside 2 3 zones 2 2 (67 ∷ 67 ∷ []) threeSlots ≡ answered accountZero 0 threeSlots
+  pub second-then : combineOf Inside 2 2 zones 1 2 (67 ∷ 67 ∷ []) threeSlots ≡ answered tilesOverlap 0 threeSlots
+  pub orders : combineOf Inside 2 2 zones 3 2 zones [] ≡ answered ordersDiffer 0 []

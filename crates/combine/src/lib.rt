@@ -1,5 +1,5 @@
-// A third list from two maps of one order, by a rule over their pixels: the runs of the combined map are counted first,
-// and written then.
+// A third list from two maps of one order, by a rule over their pixels. The third map is walked run by run, once to
+// count its tiles and once to write them.
 ghost use mathlib.Core.Path.{_≡_};
 ghost use mathlib.Core.List.{map};
 ghost use Prim.Native.Nat.{_≤_};
@@ -7,12 +7,13 @@ ghost use lib.ListN.{length};
 ghost use lib.Seq.{sets};
 ghost use Rattle.refusal.specs.Checks.{Gives};
 ghost use Rattle.tile.specs.Tile.{wordOf};
+ghost use Rattle.combine_rule.specs.Rule.{ruleOf};
 ghost use Rattle.combine.specs.declared.Combined.{Combined};
-ghost use Rattle.combine.specs.Combine.{combinedList, mapsCheck, combineOf};
+ghost use Rattle.combine.specs.Combine.{thirdTiles, mapsCheck, combineOf};
 ghost use Rattle.combine.specs.Maps.{Maps};
 use combine_rule::Choice;
 
-// The answer: the tile count of the third list.
+// The answer: the number, and the tile count of the third list.
 #[repr(C)]
 pub struct Combined {
     pub number: u32,
@@ -44,7 +45,7 @@ fn maps_check(
     refusal::ACCEPTED
 }
 
-// How many tiles the combined map has.
+// How many tiles the third map has.
 fn count(
     choice: Choice,
     order: u32,
@@ -54,7 +55,8 @@ fn count(
     slots2: &[u32],
 ) -> usize
     requires { ⌜ Maps order tiles1 (now slots1) tiles2 (now slots2) ⌝ }
-    ensures { λ r. ⌜ r ≡ length (combinedList choice order tiles1 (now (slots1 .entry)) tiles2 (now (slots2 .entry))) ⌝ }
+    ensures { λ r. ⌜ r ≡ length (thirdTiles (ruleOf choice) order tiles1 (now (slots1 .entry)) tiles2
+        (now (slots2 .entry))) ⌝ }
 {
     let end = tile::area(order);
     let mut step = combine_walk::next_step(choice, end, tiles1, slots1, tiles2, slots2, 0, 0, 0);
@@ -62,14 +64,14 @@ fn count(
     let mut count: usize = 0;
     while z < end {
         let run = combine_walk::next_run(choice, end, tiles1, slots1, tiles2, slots2, step, z);
-        count += list_cut::count_run(z, run.stop, step.account);
+        count += list_cut::count_cut(z, run.stop, step.account);
         z = run.stop;
         step = run.next;
     }
     count
 }
 
-// Writes the words of these tiles from the first slot on.
+// Writes the words of the third map's tiles from the first slot on.
 fn write(
     choice: Choice,
     order: u32,
@@ -80,9 +82,9 @@ fn write(
     out: &mut [u32],
 )
     requires { ⌜ Maps order tiles1 (now slots1) tiles2 (now slots2)
-        × (length (combinedList choice order tiles1 (now slots1) tiles2 (now slots2)) ≤ length (now out)) ⌝ }
+        × (length (thirdTiles (ruleOf choice) order tiles1 (now slots1) tiles2 (now slots2)) ≤ length (now out)) ⌝ }
     ensures { λ r. ⌜ now (out .exit) ≡ sets (now (out .entry)) 0
-        (map wordOf (combinedList choice order tiles1 (now (slots1 .entry)) tiles2 (now (slots2 .entry)))) ⌝ }
+        (map wordOf (thirdTiles (ruleOf choice) order tiles1 (now (slots1 .entry)) tiles2 (now (slots2 .entry)))) ⌝ }
 {
     let end = tile::area(order);
     let mut step = combine_walk::next_step(choice, end, tiles1, slots1, tiles2, slots2, 0, 0, 0);
@@ -90,13 +92,13 @@ fn write(
     let mut at: usize = 0;
     while z < end {
         let run = combine_walk::next_run(choice, end, tiles1, slots1, tiles2, slots2, step, z);
-        at = list_cut::put_run(out, at, z, run.stop, step.account);
+        at = list_cut::put_cut(out, at, z, run.stop, step.account);
         z = run.stop;
         step = run.next;
     }
 }
 
-// The offered call: leaves the list of the combined map in the slots `out`, the rest of them 0, and answers its tile
+// The offered call: leaves the list of the third map in the slots `out`, the rest of them 0, and answers its tile
 // count; refused, answers the first refusal and changes no slot.
 pub fn combine(
     choice: Choice,

@@ -1,13 +1,13 @@
--- The rule, case by case, and its bound. No law or proof above this crate looks into the rule.
+-- The rule, case by case, and its bound. Elsewhere only worked lines, which compute it, look into the rule.
 --     inside-held, inside-free     inside, at a pixel that is somebody's or nobody's on the second map
 --     outside-free, outside-held   outside
---     rule-low                     of two accounts it makes an account
+--     rule-accounts                of two accounts it makes an account
 use mathlib.Core.Path.{_≡_}
-use Prim.Native.Nat.{ℕ, zero, suc, _-_, _≤_, _<_}
+use Prim.Native.Nat.{ℕ, zero, suc, _-_, _<_}
 use native.Mathlib.Omega.{arith}
 use Rattle.combine_rule.specs.declared.Choice.{Choice}
 use Rattle.combine_rule.specs.declared.Choice.the-variants.{Inside, Outside}
-use Rattle.combine_rule.specs.Rule.{ruleOf}
+use Rattle.combine_rule.specs.Rule.{ruleOf, MakesAccounts}
 
 module _ {choice : Choice} (a b : ℕ) where
   pub inside-held : choice ≡ Inside → 0 < b → a ≡ ruleOf choice a b
@@ -26,9 +26,9 @@ module _ {choice : Choice} (a b : ℕ) where
   unfolding ruleOf
   outside-held e h = let s : b ≡ suc (b - 1) = omega arith in rw (e, s)
 
-pub rule-low : (choice : Choice) (a b : ℕ) {most : ℕ} → a ≤ most → b ≤ most → ruleOf choice a b ≤ most
+pub rule-accounts : (choice : Choice) → MakesAccounts (ruleOf choice)
 unfolding ruleOf
-rule-low Inside a zero h l = omega arith
-rule-low Inside a (suc b) h l = h
-rule-low Outside a zero h l = h
-rule-low Outside a (suc b) h l = omega arith
+rule-accounts Inside a zero h l = omega arith
+rule-accounts Inside a (suc b) h l = h
+rule-accounts Outside a zero h l = h
+rule-accounts Outside a (suc b) h l = omega arith

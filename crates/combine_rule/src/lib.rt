@@ -1,5 +1,5 @@
-// The rule by which a pixel of two maps makes a pixel of a third. No other crate knows it: what walks the two lists is
-// proved for whatever rule stands here.
+// The rule by which the pixels of two maps make the pixel of a third. Code elsewhere asks `keep`, and no proof of code
+// elsewhere looks into the rule.
 ghost use mathlib.Core.Path.{_≡_};
 ghost use Prim.Native.Nat.{_≤_};
 ghost use Rattle.tile.specs.Tile.{highestAccount};

@@ -1,5 +1,5 @@
 -- One list walked by a cursor.
---     past-on                 what was passed at z is passed further on
+--     stands-on               a cursor that stands at z stands at every later number
 --     stands-start            at first the cursor stands at the first tile
 --     stands-over             a tile that ends by z is passed
 --     piece-none, -free, -on  the stretch at z: behind the last tile, ahead of a tile, on a tile

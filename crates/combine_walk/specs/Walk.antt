@@ -16,7 +16,7 @@ use Rattle.quadtree.specs.Tiling.{Tiling}
 use Rattle.quadtree.specs.Runs.{RunAt}
 use Rattle.combine_walk.specs.declared.Piece.{Piece}
 use Rattle.combine_walk.specs.declared.Step.{Step}
-use Rattle.combine_walk.specs.declared.Run.{Run}
+use Rattle.combine_walk.specs.declared.RunEnd.{RunEnd}
 
 pub record Past (g : ℕ → ℕ) (end z : ℕ) (us : List Tile) : Type 0 where
   pub lo : ℕ
@@ -46,7 +46,7 @@ pub record StepOf (f : ℕ → ℕ) (end t : ℕ) (s : List ℕ) (u : ℕ) (w : 
   pub stretch : Stretch f end z (r .account) (r .stop)
   pub both : Both end t s u w (r .stop) (r .first) (r .second)
 
-pub record RunOf (f : ℕ → ℕ) (end t : ℕ) (s : List ℕ) (u : ℕ) (w : List ℕ) (z a : ℕ) (r : Run) : Type 0 where
+pub record RunOf (f : ℕ → ℕ) (end t : ℕ) (s : List ℕ) (u : ℕ) (w : List ℕ) (z a : ℕ) (r : RunEnd) : Type 0 where
   pub run : RunAt f end z a (r .stop)
   pub low : a ≤ highestAccount
   pub ahead : r .stop < end → StepOf f end t s u w (r .stop) (r .next)

@@ -1,8 +1,8 @@
-// Two maps of one order walked together. Both lists are passed once in Morton order, each with a cursor, which gives the
-// runs of the combined map, one after the other. The rule over the pixels is asked and never looked into.
+// Two maps of one order walked together. Both lists are passed once in Morton order, each with a cursor, which gives
+// the runs of the third map, one after the other. The rule over the pixels is asked, and never looked into.
 ghost use mathlib.Core.Path.{_≡_};
 ghost use Prim.Native.Nat.{ℕ, _<_, _≤_};
-ghost use Rattle.combine_rule.specs.Rule.{combined};
+ghost use Rattle.combine_rule.specs.Rule.{ruleOf, thirdRaster};
 ghost use Rattle.combine_walk.specs.Walk.{Stands, PieceOf, Both, StepOf, RunOf};
 use combine_rule::Choice;
 
@@ -13,7 +13,7 @@ pub struct Piece {
     pub at: usize,
 }
 
-// A stretch of the combined map: its account, where it ends, and the cursors of both lists there.
+// A stretch of the third map: its account, where it ends, and the cursors of both lists there.
 pub struct Step {
     pub account: u8,
     pub stop: u32,
@@ -21,8 +21,9 @@ pub struct Step {
     pub second: usize,
 }
 
-// A run of the combined map: where it ends, and the step that begins the next one, if it ends before the bed does.
-pub struct Run {
+// The end of a run of the third map, and the step that begins the next run there. At the bed's end there is none, and
+// `next` says nothing.
+pub struct RunEnd {
     pub stop: u32,
     pub next: Step,
 }
@@ -66,7 +67,7 @@ fn next_piece(end: u32, tiles: usize, slots: &[u32], i: usize, z: u32) -> Piece
     }
 }
 
-// The stretch of the combined map from z on, up to where either map's stretch ends.
+// The stretch of the third map from z on, up to where either map's stretch ends.
 pub fn next_step(
     choice: Choice,
     end: u32,
@@ -79,8 +80,8 @@ pub fn next_step(
     z: u32,
 ) -> Step
     requires { ⌜ (z < end) × Both end tiles1 (now slots1) tiles2 (now slots2) z i j ⌝ }
-    ensures { λ r. ⌜ StepOf (combined choice tiles1 (now (slots1 .entry)) tiles2 (now (slots2 .entry))) end
-        tiles1 (now (slots1 .entry)) tiles2 (now (slots2 .entry)) z r ⌝ }
+    ensures { λ r. ⌜ StepOf (thirdRaster (ruleOf choice) tiles1 (now (slots1 .entry)) tiles2
+        (now (slots2 .entry))) end tiles1 (now (slots1 .entry)) tiles2 (now (slots2 .entry)) z r ⌝ }
 {
     let p = next_piece(end, tiles1, slots1, i, z);
     let q = next_piece(end, tiles2, slots2, j, z);
@@ -96,7 +97,7 @@ pub fn next_step(
     }
 }
 
-// The run of the combined map from z on, of which `step` is the beginning: steps of one account taken together.
+// The run of the third map from z on, of which `step` is the beginning: steps of one account taken together.
 pub fn next_run(
     choice: Choice,
     end: u32,
@@ -106,11 +107,11 @@ pub fn next_run(
     slots2: &[u32],
     step: Step,
     z: u32,
-) -> Run
-    requires { ⌜ StepOf (combined choice tiles1 (now slots1) tiles2 (now slots2)) end
+) -> RunEnd
+    requires { ⌜ StepOf (thirdRaster (ruleOf choice) tiles1 (now slots1) tiles2 (now slots2)) end
         tiles1 (now slots1) tiles2 (now slots2) z step ⌝ }
-    ensures { λ r. ⌜ RunOf (combined choice tiles1 (now (slots1 .entry)) tiles2 (now (slots2 .entry))) end
-        tiles1 (now (slots1 .entry)) tiles2 (now (slots2 .entry)) z (step .account) r ⌝ }
+    ensures { λ r. ⌜ RunOf (thirdRaster (ruleOf choice) tiles1 (now (slots1 .entry)) tiles2
+        (now (slots2 .entry))) end tiles1 (now (slots1 .entry)) tiles2 (now (slots2 .entry)) z (step .account) r ⌝ }
 {
     let account = step.account;
     let mut stop = step.stop;
@@ -129,11 +130,11 @@ pub fn next_run(
             stop,
         );
         if more.account != account {
-            return Run { stop, next: more };
+            return RunEnd { stop, next: more };
         }
         stop = more.stop;
         first = more.first;
         second = more.second;
     }
-    Run { stop, next: step }
+    RunEnd { stop, next: step }
 }

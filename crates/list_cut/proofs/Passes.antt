@@ -1,7 +1,7 @@
--- Lists made run by run or tile by tile in Morton order: counted in one pass, and written in another. f is the raster whose list it is.
+-- Lists made run by run in Morton order: counted in one pass, and written in another. f is any raster, whose list it is.
 --     Counted n f z c          c tiles are counted up to z, and what is left of the linear quadtree makes the count
 --     Written n f s t z p      the slots s are written up to p, the tiles up to z, which gives t; what is left makes what is promised
---     counted-start, -run, -blank, -tile, -all, written-..    their turns; -room: what a turn has room for
+--     counted-start, -run, -all, written-..    their turns; -room: what a turn has room for
 --     filled-words             the words written and the slots behind them cleared
 use mathlib.Core.Path.{_≡_, refl, ap, _∙_, sym}
 use mathlib.Core.List.{List, [], _∷_, _++_, map, map-append}
@@ -10,14 +10,14 @@ use native.Mathlib.Omega.{arith}
 use native.Mathlib.Nat.{add-zero}
 use lib.ListN.{length, take, drop, set, replicate, length-append, length-map}
 use lib.Seq.{sets, sets-eq, length-sets, take-at}
-use Rattle.tile.specs.Tile.{Tile, wordOf, stop, highestOrder}
+use Rattle.tile.specs.Tile.{Tile, wordOf, highestOrder}
 use Rattle.tile.specs.Slots.{filled}
-use Rattle.quadtree.specs.Raster.{Uniform}
 use Rattle.quadtree.specs.Quadtree.{quadtree}
 use Rattle.quadtree.proofs.Alignment.{area-mono}
 use Rattle.quadtree.proofs.ValidLaws.{quadtree-valid, valid-length}
 use Rattle.quadtree.specs.Runs.{cut, RunAt}
-use Rattle.quadtree.proofs.Rest.{Rest, Behind, Full, rest-all, rest-end, rest-blank, rest-tile, rest-run}
+use Rattle.quadtree.proofs.Rest.{Rest, Behind, rest-all, rest-end}
+use Rattle.quadtree.proofs.Laws.{run-by-run}
 
 pub record Counted (n : ℕ) (f : ℕ → ℕ) (z c : ℕ) : Type 0 where
   pub rest : List Tile
@@ -78,7 +78,7 @@ module _ {n : ℕ} {f : ℕ → ℕ} {end z a e : ℕ} (few : n ≤ highestOrder
   run-room = let m : 4 ^ n ≤ 4 ^ highestOrder = area-mono few in omega (arith, r .room)
 
   behind : {us : List Tile} → Rest n f z us → Behind n f e (cut highestOrder z e a) us
-  behind g = rest-run highestOrder run-room (rw is at r) g
+  behind g = run-by-run highestOrder run-room (rw is at r) g
 
   pub counted-run : {c : ℕ} → Counted n f z c → Counted n f e (c + length (cut highestOrder z e a))
   counted-run d = counted-next d (behind (d .goes))
@@ -92,24 +92,6 @@ module _ {n : ℕ} {f : ℕ → ℕ} {end z a e : ℕ} (few : n ≤ highestOrder
 
     pub written-room : length (quadtree n f) ≤ length o → p + length (cut highestOrder z e a) ≤ length q
     written-room h = slots-room d (behind (d .goes)) h
-
--- nobody's stretch, where tiles are taken one by one
-pub counted-blank : {n : ℕ} {f : ℕ → ℕ} {z c : ℕ} (e : ℕ) → z ≤ e → e ≤ 4 ^ n → Uniform f 0 z e → Counted n f z c → Counted n f e c
-counted-blank e h l u d = record { rest = d .rest; goes = rest-blank e h l u (d .goes); count = d .count }
-
-pub written-blank : {n : ℕ} {f : ℕ → ℕ} {o q : List ℕ} {z p : ℕ} (e : ℕ) → z ≤ e → e ≤ 4 ^ n → Uniform f 0 z e → Written n f o q z p → Written n f o q e p
-written-blank e h l u d = record { rest = d .rest; goes = rest-blank e h l u (d .goes); long = d .long; count = d .count; left = d .left }
-
--- a tile
-module _ {n : ℕ} {f : ℕ → ℕ} {v : Tile} (w : Full n f v) where
-  pub counted-tile : {c : ℕ} → Counted n f (v .corner) c → Counted n f (stop v) (c + 1)
-  counted-tile d = counted-next d (rest-tile w (d .goes))
-
-  pub written-tile : {o q : List ℕ} {p : ℕ} → Written n f o q (v .corner) p → Written n f o (set q p (wordOf v)) (stop v) (p + 1)
-  written-tile d = written-next d (rest-tile w (d .goes))
-
-  pub tile-room : {o q : List ℕ} {p : ℕ} → Written n f o q (v .corner) p → length (quadtree n f) ≤ length o → p + 1 ≤ length q
-  tile-room d h = slots-room d (rest-tile w (d .goes)) h
 
 -- the words written, and the slots behind them cleared
 pub filled-words : (ts : List Tile) (s : List ℕ) {out end : List ℕ} (c : ℕ) → c ≡ length ts → c ≤ length s → out ≡ sets s 0 (map wordOf ts) → end ≡ take c out ++ replicate (length out - c) 0 → end ≡ filled (length s) ts

@@ -1,5 +1,5 @@
-// Runs cut into blocks: a stretch of Morton numbers of one account, counted and written as the words of its largest
-// blocks in turn.
+// Runs cut into blocks: a stretch of Morton numbers of one account is cut, from its start on, into the largest blocks
+// that fit; they are counted, or written as words.
 ghost use mathlib.Core.Path.{_≡_};
 ghost use mathlib.Core.List.{map};
 ghost use Prim.Native.Nat.{_+_, _^_, _<_, _≤_};
@@ -22,8 +22,8 @@ pub fn largest(lo: u32, hi: u32) -> u32
     room
 }
 
-// How many tiles the run of an account from `lo` up to `hi` has.
-pub fn count_run(lo: u32, hi: u32, account: u8) -> usize
+// How many tiles the stretch from `lo` up to `hi` is cut into; nobody's has none.
+pub fn count_cut(lo: u32, hi: u32, account: u8) -> usize
     requires { ⌜ (lo ≤ hi) × (hi ≤ 4 ^ highestOrder) ⌝ }
     ensures { λ r. ⌜ r ≡ length (cut highestOrder lo hi account) ⌝ }
 {
@@ -40,7 +40,7 @@ pub fn count_run(lo: u32, hi: u32, account: u8) -> usize
 }
 
 // Writes the word of one tile to the slot `at`, and answers the slot behind it.
-pub fn put_tile(slots: &mut [u32], at: usize, corner: u32, size: u32, account: u8) -> usize
+fn put_tile(slots: &mut [u32], at: usize, corner: u32, size: u32, account: u8) -> usize
     requires { ⌜ (at < length (now slots)) × (corner < 4 ^ highestOrder) × (size ≤ highestOrder)
         × (account ≤ highestAccount) ⌝ }
     ensures { λ r. ⌜ (r ≡ at + 1)
@@ -50,8 +50,8 @@ pub fn put_tile(slots: &mut [u32], at: usize, corner: u32, size: u32, account: u
     at + 1
 }
 
-// Writes the words of the tiles of such a run to the slots from `at` on, and answers the slot behind them.
-pub fn put_run(slots: &mut [u32], at: usize, lo: u32, hi: u32, account: u8) -> usize
+// Writes the words of these tiles to the slots from `at` on, and answers the slot behind them.
+pub fn put_cut(slots: &mut [u32], at: usize, lo: u32, hi: u32, account: u8) -> usize
     requires { ⌜ (lo ≤ hi) × (hi ≤ 4 ^ highestOrder) × (account ≤ highestAccount)
         × (at + length (cut highestOrder lo hi account) ≤ length (now slots)) ⌝ }
     ensures { λ r. ⌜ (r ≡ at + length (cut highestOrder lo hi account))

@@ -8,12 +8,13 @@ use Rattle.tile.specs.Tile.{Tile, stop}
 use Rattle.quadtree.specs.Raster.{Aligned, Uniform, accountAt, paint, _∈_, Shows}
 use Rattle.quadtree.specs.Quadtree.{Largest, LinearQuadtree, quadtree}
 use Rattle.quadtree.specs.Valid.{Valid}
-use Rattle.quadtree.specs.Runs.{Run, Runs, runsOf, tilesOf}
+use Rattle.quadtree.specs.Runs.{cut, Run, RunAt, Runs, runsOf, tilesOf}
 use Rattle.quadtree.proofs.ValidLaws.{quadtree-valid, quadtree-shown, valid-unique}
 use Rattle.quadtree.proofs.Least.{shows-least}
 use Rattle.quadtree.proofs.Linear.{quadtree-linear, linear-unique, valid-linear, valid-cover, quadtree-shows}
 use Rattle.quadtree.proofs.Change.{Fits, Completes, valid-remove, valid-insert}
 use Rattle.quadtree.proofs.Merge.{Places, places-painted}
+use Rattle.quadtree.proofs.Rest.{Rest, Behind, rest-run}
 use Rattle.quadtree.proofs.RunLaws.{runs-cut, runsOf-runs, runs-linear}
 
 -- Cover. In a valid list a block that is uniform with a non-zero account lies inside one tile, which has that account.
@@ -75,6 +76,10 @@ runs = runs-cut
 pub runs-there : (n : ℕ) (f : ℕ → ℕ) → Runs f (4 ^ n) 0 (runsOf n f)
 runs-there = runsOf-runs
 
--- .. and the same in a reader's terms.
+-- .. in a reader's terms ..
 pub runs-are-linear : (n : ℕ) (f : ℕ → ℕ) → LinearQuadtree n f (tilesOf n (runsOf n f))
 runs-are-linear = runs-linear
+
+-- .. and run by run, as code goes: what is left of the linear quadtree at the start of a run, somebody's or nobody's, is the run cut, and behind it what is left at its end. Any size that is large enough may be the largest looked for.
+pub run-by-run : {n : ℕ} {f : ℕ → ℕ} {lo a hi : ℕ} {us : List Tile} (cap : ℕ) → hi ≤ 4 ^ cap → RunAt f (4 ^ n) lo a hi → Rest n f lo us → Behind n f hi (cut cap lo hi a) us
+run-by-run = rest-run

@@ -3,7 +3,6 @@
 --     rest-all, rest-end  from 0 on it is the whole, and past the last number nothing
 --     rest-blank          a stretch of nobody's has no tile
 --     Full n f t          t is a tile of f, and no larger block that starts where t does is uniform
---     full-mixed          so it is where its parent is not uniform
 --     rest-tile           such a tile is the next one
 --     rest-run            a run is cut into its largest blocks
 use mathlib.Core.Path.{_≡_, refl, ap, _∙_, sym}
@@ -15,7 +14,7 @@ use native.Mathlib.Decide.{decLt, decLe}
 use Rattle.tile.specs.Tile.{Tile, tile, stop}
 use Rattle.quadtree.specs.Raster.{Aligned, Uniform}
 use Rattle.quadtree.specs.Quadtree.{quadtree}
-use Rattle.quadtree.proofs.Alignment.{cmp, below, same, above, area-pos, area-mono, size-le, aligned-down, aligned-gap}
+use Rattle.quadtree.proofs.Alignment.{cmp, below, same, above, area-pos, area-mono, size-le, aligned-down}
 use Rattle.quadtree.proofs.Tiling.{On, Next, Tiling, none, next, tiling-le, on-corner}
 use Rattle.quadtree.proofs.Unique.{AllTop}
 use Rattle.quadtree.proofs.ValidLaws.{quadtree-tiling, quadtree-top}
@@ -57,14 +56,6 @@ pub record Full (n : ℕ) (f : ℕ → ℕ) (v : Tile) : Type 0 where
   pub on : On f v
   pub room : stop v ≤ 4 ^ n
   pub stuck : Aligned (suc (v .size)) (v .corner) → v .corner + 4 ^ suc (v .size) ≤ 4 ^ n → Uniform f (v .account) (v .corner) (v .corner + 4 ^ suc (v .size)) → ⊥
-
--- so is a tile whose parent, the block of the next size at p, has another account at some z
-pub full-mixed : {n : ℕ} {f : ℕ → ℕ} {v : Tile} (p z : ℕ) → On f v → stop v ≤ 4 ^ n → Aligned (suc (v .size)) p → p ≤ v .corner → v .corner < p + 4 ^ suc (v .size) → p ≤ z → z < p + 4 ^ suc (v .size) → (f z ≡ v .account → ⊥) → Full n f v
-full-mixed {v = v} p z o r m l h zl zh ne = record {
-  on = o;
-  room = r;
-  stuck = λ a room u. elim (decLt p (v .corner)) [ yes g ↦ omega (arith, aligned-gap m a g) | no g ↦ ne (u z (omega arith) (omega arith)) ];
-}
 
 module _ {n : ℕ} {f : ℕ → ℕ} {v : Tile} (w : Full n f v) where
   module _ (t : Tile) (ts : List Tile) (p : Next f (v .corner) t) (s : Tiling f (4 ^ n) (stop t) ts) (big : AllTop n f (t ∷ ts)) (c : t .corner ≡ v .corner) where

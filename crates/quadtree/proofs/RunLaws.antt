@@ -1,7 +1,7 @@
 -- The law of runs: the runs of a raster, cut in turn, are its linear quadtree.
---     runs-cut                 so are any runs that are the raster's
---     runsOf-runs              the program finds them
---     runs-quadtree, -linear   the law, for the linear quadtree as a program and as a reader defines it
+--     runs-cut                 of any list that is the raster's runs
+--     runsOf-runs              of the list that the program gives: it is such a list
+--     runs-quadtree, -linear   so, for the linear quadtree as a program and as a reader defines it
 use mathlib.Core.Path.{_≡_, refl, ap, _∙_, sym}
 use mathlib.Core.List.{List, _∷_, _++_}
 use Prim.Native.Nat.{ℕ, zero, suc, _+_, _^_, _<_}

@@ -1,14 +1,15 @@
--- Inner: a raster as runs: longest stretches of Morton numbers of one account. Definitions only.
+-- Inner: a raster as runs: longest stretches of Morton numbers of one account. The law of runs is stated by them.
+-- Definitions only.
 --     Greedy lo hi k       a block of size k starts at lo and ends by hi, and none of the next size does
 --     largest n lo hi      the largest size up to n of a block that starts at lo and ends by hi
 --     cut n lo hi a        the stretch from lo up to hi cut into such blocks, one behind the other, as tiles of the
 --                          account a; nobody's has none
---     RunAt f end lo a e   from lo up to e the raster f has the account a, which does not go on there; the numbers
---                          below `end` count
+--     RunAt f end lo a e   from lo up to e the raster f has the account a, which does not go on at e; it may have begun
+--                          before lo. The numbers below `end` count
 --     Runs f end lo rs     rs are the runs of the raster f from lo on: somebody's, rising, as long as they can be
 --     runsOf n f           the same as a program, of the bed of order n
 --     tilesOf n rs         the tiles of runs cut in turn
--- That `tilesOf n (runsOf n f)` is the linear quadtree of f is the law of runs, `runs-quadtree`.
+-- That `tilesOf n (runsOf n f)` is the linear quadtree of f is the law of runs (`runs`, proofs/Laws.antt).
 use mathlib.Core.Path.{_≡_}
 use mathlib.Core.Bool.{true, false, _&&_}
 use mathlib.Core.List.{List, [], _∷_, _++_}

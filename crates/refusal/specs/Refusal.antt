@@ -1,5 +1,5 @@
--- The refusal numbers (document 01, "Refusals by the place of the check"; from 51 on document 02), under the name of the
--- condition met. Definitions only. `accepted` is no refusal. The comment is the table's own row.
+-- The refusal numbers (document 01, "Refusals by the place of the check"; from 51 on document 02), under the name of
+-- the condition met. Definitions only. `accepted` is no refusal. The comment is the table's own row.
 use Prim.Native.Nat.{ℕ}
 
 abbrev pub accepted : ℕ

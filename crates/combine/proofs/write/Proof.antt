@@ -2,7 +2,7 @@
 use Prim.Native.Nat.{_-_, _<_}
 use native.Mathlib.Omega.{arith}
 use Rattle.quadtree.proofs.Alignment.{area-pos}
-use Rattle.combine_rule.specs.Rule.{combined}
+use Rattle.combine_rule.specs.Rule.{ruleOf, thirdRaster}
 use Rattle.combine_walk.specs.Walk.{StepOf}
 use Rattle.combine_walk.proofs.Cursor.{stands-start}
 use Rattle.list_cut.proofs.Passes.{run-room, Written, written-start, written-all, written-room, written-run}
@@ -11,8 +11,8 @@ use Rattle.combine.proofs.write.Tie as tie
 
 abbrev Inv-loop : tie.InvT-loop
 Inv-loop choice order tiles1 slots1 tiles2 slots2 out₀ end step₀ z₀ at₀ out step z at =
-    (z < end → StepOf (combined choice tiles1 slots1 tiles2 slots2) end tiles1 slots1 tiles2 slots2 z step)
-    × Written order (combined choice tiles1 slots1 tiles2 slots2) out₀ out z at
+    (z < end → StepOf (thirdRaster (ruleOf choice) tiles1 slots1 tiles2 slots2) end tiles1 slots1 tiles2 slots2 z step)
+    × Written order (thirdRaster (ruleOf choice) tiles1 slots1 tiles2 slots2) out₀ out z at
 
 abbrev μ-loop : tie.MeasureT-loop
 μ-loop choice order tiles1 slots1 tiles2 slots2 out₀ end step₀ z₀ at₀ out step z at = end - z
@@ -25,7 +25,7 @@ loop-again c =
     let pre = c .before .before .before .before .before .before .before .before .before .before .before .before .before .pre in
     let area = c .before .before .before .before .before .before .before .before .before .area in
     let run = c .before .before .before .before .before .next-run .ensures in
-    let put = c .before .before .before .put-run .ensures in
+    let put = c .before .before .before .put-cut .ensures in
     (run .ahead, rw (put .0, put .1) (written-run (pre .0 .few) (area .ensures) (run .run) (c .before .before .before .before .before .before .before .loop .inv .1)))
 
 returns : tie.Need-returns Inv-loop μ-loop
@@ -51,8 +51,8 @@ next-step-requires c κs =
 next-run-requires : tie.Need-next-run-requires Inv-loop μ-loop
 next-run-requires c κs = c .before .loop .inv .0 (c .loop-test .taken)
 
-put-run-requires : tie.Need-put-run-requires Inv-loop μ-loop
-put-run-requires c κs =
+put-cut-requires : tie.Need-put-cut-requires Inv-loop μ-loop
+put-cut-requires c κs =
     let pre = c .before .before .before .before .before .before .before .before .before .pre in
     let area = c .before .before .before .before .before .area in
     let run = c .before .next-run .ensures in (
@@ -64,5 +64,5 @@ put-run-requires c κs =
 
 pub write-spec : {M : Type 1} → statement M
 write-spec =
-    tie.close (tie.spec Inv-loop μ-loop area-requires next-step-requires loop-holds next-run-requires put-run-requires loop-less loop-again
+    tie.close (tie.spec Inv-loop μ-loop area-requires next-step-requires loop-holds next-run-requires put-cut-requires loop-less loop-again
     same-length returns)

@@ -1,7 +1,7 @@
 -- Stretches of one account join, until another account or the bed's end.
 use Prim.Native.Nat.{_-_}
 use native.Mathlib.Omega.{arith}
-use Rattle.combine_rule.specs.Rule.{combined}
+use Rattle.combine_rule.specs.Rule.{ruleOf, thirdRaster}
 use Rattle.combine_walk.specs.Walk.{StepOf}
 use Rattle.combine_walk.proofs.Walked.{step-more, run-other, run-all}
 use borrow.Author.Needs.{needs}
@@ -10,7 +10,7 @@ use Rattle.combine_walk.proofs.next_run.Tie as tie
 
 abbrev Inv-loop : tie.InvT-loop
 Inv-loop choice end tiles1 slots1 tiles2 slots2 step z account stop₀ first₀ second₀ stop first second =
-    StepOf (combined choice tiles1 slots1 tiles2 slots2) end tiles1 slots1 tiles2 slots2 z (record { account = account; stop = stop; first = first; second = second })
+    StepOf (thirdRaster (ruleOf choice) tiles1 slots1 tiles2 slots2) end tiles1 slots1 tiles2 slots2 z (record { account = account; stop = stop; first = first; second = second })
 
 abbrev μ-loop : tie.MeasureT-loop
 μ-loop choice end tiles1 slots1 tiles2 slots2 step z account stop₀ first₀ second₀ stop first second = end - stop

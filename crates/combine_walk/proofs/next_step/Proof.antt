@@ -1,4 +1,4 @@
--- Two stretches together, by any rule.
+-- Two stretches together: `both-step`, of any rule.
 use Rattle.combine_rule.specs.Rule.{ruleOf}
 use Rattle.combine_walk.proofs.Walked.{both-step}
 use borrow.Author.Needs.{needs}

@@ -7,8 +7,8 @@ use Rattle.quadtree.proofs.Alignment.{area-pos}
 use Rattle.quadtree.proofs.Cuts.{cut-nobody}
 use Rattle.list_cut.proofs.Turns.{Counting, count-start, count-more, count-all, greedy-size}
 use borrow.Author.Needs.{needs}
-use Rattle.list_cut.proofs.count_run.Statement.{statement}
-use Rattle.list_cut.proofs.count_run.Tie as tie
+use Rattle.list_cut.proofs.count_cut.Statement.{statement}
+use Rattle.list_cut.proofs.count_cut.Tie as tie
 
 abbrev Inv-loop : tie.InvT-loop
 Inv-loop lo hi account x₀ count₀ x count = Counting account lo hi x count
@@ -43,7 +43,7 @@ area-requires c κs = omega (arith, greedy-size (c .before .before .before .befo
 add-x : tie.Need-add-x Inv-loop μ-loop
 add-x c = omega (arith, c .before .largest .ensures .fits, c .area .ensures, c .before .before .before .before .before .pre)
 
-pub count-run-spec : {M : Type 1} → statement M
-count-run-spec =
+pub count-cut-spec : {M : Type 1} → statement M
+count-cut-spec =
     tie.close (tie.spec Inv-loop μ-loop returns loop-holds (λ c κs. search needs) area-requires add-x (λ c. search needs) loop-less loop-again
     returns-2)

@@ -7,8 +7,8 @@ use Rattle.quadtree.proofs.Alignment.{area-pos}
 use Rattle.quadtree.proofs.Cuts.{cut-nobody}
 use Rattle.list_cut.proofs.Turns.{greedy-size, Putting, put-start, put-room, put-more, put-all}
 use borrow.Author.Needs.{needs}
-use Rattle.list_cut.proofs.put_run.Statement.{statement}
-use Rattle.list_cut.proofs.put_run.Tie as tie
+use Rattle.list_cut.proofs.put_cut.Statement.{statement}
+use Rattle.list_cut.proofs.put_cut.Tie as tie
 
 abbrev Inv-loop : tie.InvT-loop
 Inv-loop slots₀ at lo hi account x₀ p₀ slots x p = Putting account slots₀ at lo hi slots x p
@@ -59,7 +59,7 @@ area-requires c κs = omega (arith, greedy-size (c .before .before .before .befo
 add-x : tie.Need-add-x Inv-loop μ-loop
 add-x c = omega (arith, c .before .before .before .before .before .largest .ensures .fits, c .area .ensures, c .before .before .before .before .before .before .before .before .before .before .pre .1)
 
-pub put-run-spec : {M : Type 1} → statement M
-put-run-spec =
+pub put-cut-spec : {M : Type 1} → statement M
+put-cut-spec =
     tie.close (tie.spec Inv-loop μ-loop returns loop-holds (λ c κs. search needs) put-tile-requires area-requires add-x loop-less loop-again
     same-length returns-2)
