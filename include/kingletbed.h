@@ -265,7 +265,8 @@ KB_MUST_USE kb_read_answer kb_read(const uint8_t *file, size_t file_length, uint
    it tells what of a bed lies inside of them, or outside; whose a zone is does not matter. In terms of sets, inside is
    the intersection of the first map with the second one's held ground, outside their difference. An unscanned pixel
    counts as nobody's in both maps.
-     refuses   the list checks of the first map, the list checks of the second, KB_ORDERS_DIFFER, KB_SLOTS_EXCEEDED
+     refuses   the list checks of the first map, the list checks of the second, KB_ORDERS_DIFFER, KB_SLOTS_EXCEEDED. The
+               number of a list check does not say which of the two maps broke it; kb_check does.
      answers   the third map's tile count, the only one that goes with `out`. It may be above those of the two maps
                together; 4^order slots always suffice.
      storage   accepted, `out` holds the list of the third map, and 0 from its end on; refused, it is as it was. The two
@@ -287,12 +288,12 @@ KB_MUST_USE static inline kb_part_tiles_answer kb_part_tiles(uint32_t order, siz
 
 /* ---- The scan with its slots ----
    Begin with `kb_scan scan = {0};` (in C++ `= {};`), an empty bed of order 0 without slots; then kb_scan_fresh,
-   kb_scan_read or kb_scan_combine. Each function makes the call of its name on the scan's own numbers and slots,
-   refuses what that call refuses and brings the scan up to date; where the rest of an answer goes into the scan, it
-   answers the number alone. Numbers of 64 bits are taken, and none is cut: one that does not fit is refused as too
-   large, but for a kind or a choice, which is KB_MORTON or KB_OUTSIDE as any number other than 0. Leave the fields and
-   the slots to these functions. A copy of a kb_scan has the same slots: once they change through one of the two, the
-   other is stale and must not be used. */
+   kb_scan_read or kb_scan_combine. Each function makes the call of its name on the numbers and slots of the scan, or of
+   the two that are combined, refuses what that call refuses and brings the scan up to date; where the rest of an answer
+   goes into the scan, it answers the number alone. Numbers of 64 bits are taken, and none is cut: one that does not fit
+   is refused as too large, but for a kind or a choice, which is KB_MORTON or KB_OUTSIDE as any number other than 0.
+   Leave the fields and the slots to these functions. A copy of a kb_scan has the same slots: once they change through
+   one of the two, the other is stale and must not be used. */
 typedef struct kb_scan {
     uint32_t kind, order, pixels;
     size_t tiles;
@@ -324,9 +325,10 @@ KB_MUST_USE static inline uint32_t kb_scan_read(kb_scan *scan, const uint8_t *fi
     return read.number;
 }
 
-/* Accepted, the scan is the third map, by rows and with every pixel, whatever the two maps have scanned; refused, it is
-   as it was, with the slots that it had. It may be the very `first` or `second`, and then has the slots handed in
-   instead of its own. Those are apart from the slots of both maps: never hand in the slots of one of them. */
+/* Accepted, the scan is the third map, by rows and with every pixel: those that one of the two maps has not scanned yet
+   are nobody's, and scanned. Refused, it is as it was, with the slots that it had. It may be the very `first` or
+   `second`, and then has the slots handed in instead of its own. Those are apart from the slots of both maps: never hand
+   in the slots of one of them. */
 KB_MUST_USE static inline uint32_t kb_scan_combine(kb_scan *scan, uint64_t choice,
                                                    const kb_scan *first, const kb_scan *second,
                                                    uint32_t *slots, size_t slots_length)

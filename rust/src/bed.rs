@@ -113,7 +113,8 @@ impl<S: AsRef<[u32]> + AsMut<[u32]>> Bed<S> {
 
     /// Makes a third bed of two of one order: the first's pixels where the second is somebody's, or where it is
     /// nobody's. A pixel that is not scanned counts as nobody's in both. The slots then hold the third bed's list, and
-    /// 0 behind it. Like a bed read from a file it is by rows, with every pixel scanned.
+    /// 0 behind it. Like a bed read from a file it is by rows, with every pixel scanned. Orders that differ are
+    /// refused, and too few slots.
     ///
     /// ```
     /// use kingletbed::{Bed, Choice, Refusal};
