@@ -6,7 +6,6 @@ use mathlib.Core.List.{List, [], _∷_}
 use Prim.Native.Nat.{ℕ}
 use Rattle.refusal.specs.Refusal.{accepted, accountZero, tilesOverlap, ordersDiffer, slotsExceeded}
 use Rattle.refusal.specs.Checks.{After}
-use Rattle.combine_rule.specs.declared.Choice.{Choice}
 use Rattle.combine_rule.specs.declared.Choice.the-variants.{Inside, Outside}
 use Rattle.combine.specs.declared.Combined.{Combined}
 use Rattle.combine.specs.Combine.{combineOf}
