@@ -1,10 +1,11 @@
 -- What the call gives by any rule, by how its checks end.
 --     maps-passed                               two maps that pass their checks
+--     maps-start                                the cursors at the start of such maps
 --     maps-first, -second, -orders, -accepted   these checks, by how each ends
 --     combineBy-refused, -slots, -done          the call refused by them, refused by 25, and accepted
 use mathlib.Core.Path.{_≡_, refl, sym, _∙_}
 use mathlib.Core.List.{List, _++_, map}
-use Prim.Native.Nat.{ℕ, _-_, _≤_, _<_}
+use Prim.Native.Nat.{ℕ, _-_, _^_, _≤_, _<_}
 use native.Mathlib.Omega.{arith}
 use lib.ListN.{length, take, replicate}
 use lib.Seq.{sets}
@@ -13,9 +14,12 @@ use Rattle.refusal.specs.Refusal.{accepted, ordersDiffer, slotsExceeded}
 use Rattle.refusal.specs.Checks.{Gives}
 use Rattle.refusal.proofs.CheckLaws.{must-on, must-off, must-inv, else-on, else-off, else-inv, unless-on, unless-off}
 use Rattle.tile.specs.Tile.{wordOf}
+use Rattle.quadtree.proofs.Alignment.{area-pos}
 use Rattle.list_check.specs.ListCheck.{listCheck}
 use Rattle.list_check.proofs.Accepts.{listCheck-valid}
 use Rattle.list_cut.proofs.Passes.{filled-words}
+use Rattle.combine_walk.specs.Walk.{Both}
+use Rattle.combine_walk.proofs.Cursor.{stands-start}
 use Rattle.combine.specs.Combine.{thirdTiles, mapsCheck, combineRefusal, combineBy}
 use Rattle.combine.specs.Maps.{Maps}
 
@@ -47,6 +51,10 @@ module _ (n t : ℕ) (s : List ℕ) (m u : ℕ) (w : List ℕ) where
       pub maps-accepted : n ≡ m → accepted ≡ mapsCheck n t s m u w
       unfolding mapsCheck
       maps-accepted h = rw (else-on (listCheck n t s) _ g, else-on (listCheck m u w) _ k) (sym (must-on ordersDiffer accepted (test-eqb n m) h))
+
+pub maps-start : {n t : ℕ} {s : List ℕ} {u : ℕ} {w : List ℕ} (end : ℕ) → end ≡ 4 ^ n → Maps n t s u w → (0 < end) × Both end t s u w 0 0 0
+maps-start {n} end e p =
+    (omega (arith, area-pos n), record { first = stands-start end e (p .within1) (p .valid1); second = stands-start end e (p .within2) (p .valid2) })
 
 module _ (rule : ℕ → ℕ → ℕ) (n t : ℕ) (s : List ℕ) (m u : ℕ) (w out : List ℕ) where
   refused : (r : ℕ) → combineRefusal rule n t s m u w out ≡ r → (r ≡ accepted → ⊥) → Gives (record { number = r; tiles = 0 }) out (combineBy rule n t s m u w out)

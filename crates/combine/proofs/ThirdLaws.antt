@@ -1,19 +1,19 @@
 -- What an accepted combine leaves.
 --     third-map          by any rule that makes accounts: it is the third map of two maps of one order
 --     third-map-choice   by the rule of a choice: it is the one that document 02 asks for
-use mathlib.Core.Path.{_≡_, refl, ap, sym, _∙_}
-use mathlib.Core.List.{List, [], _∷_, map}
-use Prim.Native.Nat.{ℕ, zero, suc, _+_, _-_, _^_, _≤_, _<_}
+use mathlib.Core.Path.{_≡_, refl, ap, _∙_}
+use mathlib.Core.List.{List, map}
+use Prim.Native.Nat.{ℕ, zero, suc, _-_, _^_, _≤_, _<_}
 use native.Mathlib.Omega.{arith}
-use lib.ListN.{length, take, drop, replicate, length-map}
+use lib.ListN.{length, take, replicate, length-map}
 use lib.Seq.{drop-at}
 use Rattle.basics.proofs.Tests.{test-leb}
 use Rattle.refusal.specs.Refusal.{accepted}
 use Rattle.refusal.specs.Checks.{unless, After}
 use Rattle.refusal.proofs.CheckLaws.{must-inv, else-inv, unless-on}
-use Rattle.tile.specs.Tile.{Tile, tileOf, wordOf, highestOrder, highestAccount}
+use Rattle.tile.specs.Tile.{Tile, wordOf, highestOrder, highestAccount}
 use Rattle.tile.specs.Slots.{tilesIn, filled}
-use Rattle.tile.proofs.TileLaws.{Packable, tileOf-account}
+use Rattle.tile.proofs.TileLaws.{Packable}
 use Rattle.tile.proofs.SlotsLaws.{filled-length, tilesIn-filled}
 use Rattle.quadtree.specs.Raster.{accountAt, _∈_}
 use Rattle.quadtree.proofs.Linear.{quadtree-largest, quadtree-low}

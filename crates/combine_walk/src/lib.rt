@@ -1,6 +1,5 @@
 // Two maps of one order walked together. Both lists are passed once in Morton order, each with a cursor, which gives
 // the runs of the third map, one after the other. The rule over the pixels is asked, and never looked into.
-ghost use mathlib.Core.Path.{_≡_};
 ghost use Prim.Native.Nat.{ℕ, _<_, _≤_};
 ghost use Rattle.combine_rule.specs.Rule.{ruleOf, thirdRaster};
 ghost use Rattle.combine_walk.specs.Walk.{Stands, PieceOf, Both, StepOf, RunOf};

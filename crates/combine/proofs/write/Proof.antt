@@ -1,11 +1,10 @@
 -- Run by run: what is left of the linear quadtree makes the slots that are promised.
 use Prim.Native.Nat.{_-_, _<_}
 use native.Mathlib.Omega.{arith}
-use Rattle.quadtree.proofs.Alignment.{area-pos}
 use Rattle.combine_rule.specs.Rule.{ruleOf, thirdRaster}
 use Rattle.combine_walk.specs.Walk.{StepOf}
-use Rattle.combine_walk.proofs.Cursor.{stands-start}
 use Rattle.list_cut.proofs.Passes.{run-room, Written, written-start, written-all, written-room, written-run}
+use Rattle.combine.proofs.CombineLaws.{maps-start}
 use Rattle.combine.proofs.write.Statement.{statement}
 use Rattle.combine.proofs.write.Tie as tie
 
@@ -41,12 +40,7 @@ area-requires : tie.Need-area-requires Inv-loop μ-loop
 area-requires c κs = omega (arith, c .before .before .before .pre .0 .few)
 
 next-step-requires : tie.Need-next-step-requires Inv-loop μ-loop
-next-step-requires c κs =
-    let pre = c .before .before .before .before .pre .0 in
-    let area = c .area in (
-      omega (arith, area .ensures, area-pos (c .before .before .before .before .args .order)),
-      record { first = stands-start _ (area .ensures) (pre .within1) (pre .valid1); second = stands-start _ (area .ensures) (pre .within2) (pre .valid2) },
-    )
+next-step-requires c κs = maps-start _ (c .area .ensures) (c .before .before .before .before .pre .0)
 
 next-run-requires : tie.Need-next-run-requires Inv-loop μ-loop
 next-run-requires c κs = c .before .loop .inv .0 (c .loop-test .taken)

@@ -4,7 +4,6 @@ use native.Mathlib.Omega.{arith}
 use Rattle.combine_rule.specs.Rule.{ruleOf, thirdRaster}
 use Rattle.combine_walk.specs.Walk.{StepOf}
 use Rattle.combine_walk.proofs.Walked.{step-more, run-other, run-all}
-use borrow.Author.Needs.{needs}
 use Rattle.combine_walk.proofs.next_run.Statement.{statement}
 use Rattle.combine_walk.proofs.next_run.Tie as tie
 

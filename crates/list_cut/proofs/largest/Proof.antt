@@ -1,4 +1,4 @@
--- The zeros at the end of one number and the length of another: `greedy-starts`, `greedy-room`.
+-- What can start, or what has room, whichever is smaller: `greedy-starts`, `greedy-room`.
 use Prim.Native.Nat.{_-_}
 use native.Mathlib.Omega.{arith}
 use Rattle.list_cut.proofs.Sizes.{zeros-few, greedy-starts, greedy-room}
@@ -7,10 +7,10 @@ use Rattle.list_cut.proofs.largest.Statement.{statement}
 use Rattle.list_cut.proofs.largest.Tie as tie
 
 returns : tie.Need-returns
-returns c = greedy-starts _ _ (c .before .pre .0) (c .before .pre .1) (c .if1 .taken)
+returns c = greedy-starts _ _ (c .before .pre .0) (c .before .pre .1) (omega (arith, c .if1 .taken))
 
 returns-2 : tie.Need-returns-2
-returns-2 c = greedy-room _ _ (c .before .pre .0) (c .before .pre .1) (c .if1 .left)
+returns-2 c = greedy-room _ _ (c .before .pre .0) (c .before .pre .1) (omega (arith, c .if1 .left))
 
 sub-room-2 : tie.Need-sub-room-2
 sub-room-2 c = zeros-few (c .args .hi - c .args .lo) (omega arith) (omega arith)
