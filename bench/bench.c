@@ -4,80 +4,13 @@
 
    Before anything is timed, every other way to build a list, and to combine two, must give the library's list. */
 #include "builds.h"
+#include "stack.h"
 #include "straight.h"
+#include "timing.h"
 
 #include <stdio.h>
 #include <stdlib.h>
 #include <string.h>
-#include <time.h>
-
-#define BATCH 5e6 /* nanoseconds that a batch takes at least */
-#define LONG 2.5e8 /* what takes longer is timed once */
-#define TURNS 7
-
-static double now(void)
-{
-    struct timespec t;
-    clock_gettime(CLOCK_PROCESS_CPUTIME_ID, &t);
-    return (double)t.tv_sec * 1e9 + (double)t.tv_nsec;
-}
-
-/* Sets `result` to the nanoseconds of processor time of the statements: the mean of a batch. */
-#define TIME(result, ...)                                          \
-    for (long runs = 1;; runs *= 2) {                              \
-        double begin = now();                                      \
-        for (long run = 0; run < runs; run++) {                    \
-            __VA_ARGS__;                                           \
-        }                                                          \
-        double spent = now() - begin;                              \
-        if (spent >= BATCH) {                                      \
-            (result) = spent / (double)runs;                       \
-            break;                                                 \
-        }                                                          \
-    }
-
-/* The times of one way, turn by turn. */
-struct timing {
-    int turns;
-    double times[TURNS];
-};
-
-static double least(const struct timing *way)
-{
-    double best = way->times[0];
-    for (int turn = 1; turn < way->turns; turn++)
-        best = way->times[turn] < best ? way->times[turn] : best;
-    return best;
-}
-
-static int by_size(const void *a, const void *b)
-{
-    double x = *(const double *)a, y = *(const double *)b;
-    return (x > y) - (x < y);
-}
-
-/* One way's time divided by another's: the median of the quotients turn by turn, since the machine is faster at some times than at others. */
-static double ratio(const struct timing *way, const struct timing *other)
-{
-    double quotients[TURNS];
-    int turns = way->turns < other->turns ? way->turns : other->turns;
-    for (int turn = 0; turn < turns; turn++)
-        quotients[turn] = way->times[turn] / other->times[turn];
-    qsort(quotients, (size_t)turns, sizeof *quotients, by_size);
-    return quotients[turns / 2];
-}
-
-/* Times two statements in turns; in a single turn where it takes long. */
-#define BOTH(ours, our_call, other, other_call)                    \
-    do {                                                           \
-        (ours).turns = (other).turns = 0;                          \
-        for (int turn = 0; turn < TURNS; turn++) {                 \
-            TIME((ours).times[(ours).turns++], our_call)           \
-            TIME((other).times[(other).turns++], other_call)       \
-            if ((ours).times[turn] > LONG)                         \
-                break;                                             \
-        }                                                          \
-    } while (0)
 
 /* A bed, its accounts in both orders of scanning, its list, and room to work in. */
 struct bench {
@@ -323,6 +256,57 @@ static void print(const struct table *table, struct bench *b, uint32_t lowest, u
     }
 }
 
+typedef kb_write_answer write_call(uint32_t, size_t, const uint32_t *, size_t, uint8_t *, size_t);
+typedef kb_read_answer read_call(const uint8_t *, size_t, uint32_t *, size_t);
+
+/* A map file, and who writes and reads it. */
+struct filing {
+    struct bench *b;
+    size_t length;
+    write_call *write;
+    read_call *read;
+};
+
+static void write_file(void *handed)
+{
+    struct filing *f = handed;
+    must(f->write(f->b->order, f->b->tiles, f->b->list, f->b->tiles, f->b->file, f->length).number);
+}
+
+static void read_file(void *handed)
+{
+    struct filing *f = handed;
+    must(f->read(f->b->file, f->length, f->b->slots, f->b->tiles).number);
+}
+
+/* The table of rosters: a file's two calls by the number of accounts, with the stack that each takes. */
+static void rosters(struct bench *b, uint32_t order)
+{
+    static const uint32_t accounts[] = {2, 4, 8, 16, 32, KB_HIGHEST_ACCOUNT};
+    struct timing our_time, straight_time;
+    printf("\nRosters: files of noise, by the number of accounts. Nanoseconds for each tile × the library's time divided "
+           "by that of straightforward\nC, which keeps an array of totals; then the bytes of stack that a call takes.\n\n"
+           "| order | accounts | tiles | write | read | stack to write | plain C | stack to read | plain C |\n"
+           "|---|---|---|---|---|---|---|---|---|\n");
+    b->order = order;
+    b->pixels = area(order);
+    for (size_t i = 0; i < sizeof accounts / sizeof *accounts; i++) {
+        make_noise(accounts[i], order, b->rows);
+        b->tiles = bottom_up(order, b->rows, b->list);
+        size_t length = kb_write(order, b->tiles, b->list, b->tiles, b->file, KB_FILE_MOST(b->pixels)).length;
+        struct filing ours = {b, length, kb_write, kb_read}, straight = {b, length, straight_write, straight_read};
+        fprintf(stderr, "rosters, order %u, %u accounts\n", order, accounts[i]);
+        printf("| %u | %u | %zu ", order, accounts[i], b->tiles);
+        BOTH(our_time, write_file(&ours), straight_time, write_file(&straight));
+        cell(&our_time, &straight_time, b->tiles);
+        BOTH(our_time, read_file(&ours), straight_time, read_file(&straight));
+        cell(&our_time, &straight_time, b->tiles);
+        printf("| %zu | %zu ", stack_of(write_file, &ours), stack_of(write_file, &straight));
+        printf("| %zu | %zu |\n", stack_of(read_file, &ours), stack_of(read_file, &straight));
+        fflush(stdout);
+    }
+}
+
 int main(int argc, char **argv)
 {
     uint32_t lowest = argc > 1 ? (uint32_t)atoi(argv[1]) : 6;
@@ -342,5 +326,6 @@ int main(int argc, char **argv)
         return 1;
     for (size_t i = 0; i < sizeof tables / sizeof *tables; i++)
         print(tables + i, &b, lowest, highest);
+    rosters(&b, highest);
     return 0;
 }

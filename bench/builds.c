@@ -88,6 +88,13 @@ void make_bed(int kind, uint32_t order, uint8_t *raster)
         put_boards(&state, 24, 4, order, raster);
 }
 
+void make_noise(uint32_t accounts, uint32_t order, uint8_t *raster)
+{
+    uint64_t state = 220 + order;
+    for (size_t i = 0; i < area(order); i++)
+        raster[i] = (uint8_t)(1 + random_below(&state, accounts));
+}
+
 void make_zones(uint32_t order, uint8_t *raster)
 {
     uint64_t state = 120 + order;

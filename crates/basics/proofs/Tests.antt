@@ -4,6 +4,7 @@
 --     by-test                                  a fact of a choice, by the two ends of its test
 --     choose-yes, choose-no                    a choice whose test is known to pass, or to fail
 --     told-true, told-false                    what a test tells once its outcome is known
+--     test-true                                the test of a fact that holds passes
 --     test-alike                               two tests of equivalent facts end alike
 use mathlib.Core.Path.{_≡_, refl, subst}
 use mathlib.Core.Bool.{Bool, true, false, _&&_, not}
@@ -58,6 +59,11 @@ told-true (fails p) e = let z : _≡_ {A = ℕ} 0 1 = cc in absurd (omega arith)
 pub told-false : {P : Type 0} {b : Bool} → Test P b → b ≡ false → P → ⊥
 told-false (holds p) e q = let z : _≡_ {A = ℕ} 0 1 = cc in omega arith
 told-false (fails p) e q = p q
+
+-- the test of a fact that holds passes
+pub test-true : {P : Type 0} {b : Bool} → Test P b → P → b ≡ true
+test-true (holds p) q = refl
+test-true (fails p) q = absurd (p q)
 
 -- two tests of equivalent facts end alike
 pub test-alike : {P Q : Type 0} {a b : Bool} → Test P a → Test Q b → (P → Q) → (Q → P) → a ≡ b

@@ -1,9 +1,11 @@
 -- Reading a written file yields the same order and list.
+--     fileOf-entries    the entries of the file of a valid list are its roster
 --     fileOf-accepted   the reader accepts the file of a valid list where there are slots for it
+--     slots-accounts    the tiles in slots have accounts up to the highest
 --     read-write        and leaves the list in the slots, with its order and its tile count
 --     read-written      the same of the two calls: what an accepted write left is read
 use mathlib.Core.Path.{_≡_, refl, ap, sym, _∙_}
-use mathlib.Core.List.{List, [], _∷_, map, List·Memᴰ·head, List·Memᴰ·tail}
+use mathlib.Core.List.{List, [], _∷_, map, append-nil, List·Memᴰ, List·Memᴰ·head, List·Memᴰ·tail}
 use Prim.Native.Nat.{ℕ, _+_, _*_, _^_, _≤_, _<_}
 use native.Mathlib.Omega.{arith}
 use lib.ListN.{length, take, drop, length-map}
@@ -25,7 +27,7 @@ use Rattle.list_check.specs.ListCheck.{wordsCheck, listCheck}
 use Rattle.list_check.proofs.Accepts.{wordsCheck-valid, listCheck-valid}
 use Rattle.mapfile_bytes.specs.Items.{wordAt, wordsAt}
 use Rattle.mapfile_bytes.proofs.ItemsLaws.{word-whole}
-use Rattle.mapfile_roster.specs.Roster.{rosterOf}
+use Rattle.mapfile_roster.specs.Roster.{Entry, rosterOf}
 use Rattle.mapfile_roster.proofs.CoveredLaws.{covered-fits}
 use Rattle.mapfile_roster.proofs.RosterLaws.{rosterOf-good, rosterOf-pixels}
 use Rattle.mapfile_entries.specs.RosterCheck.{rosterCheck}
@@ -35,7 +37,8 @@ use Rattle.mapfile_sections.specs.Sections.{wordsBytes, entriesBytes}
 use Rattle.mapfile_write.specs.Writer.{fileOf, writeCheck}
 use Rattle.mapfile_write.proofs.WriterLaws.{length-wordsBytes, fileOf-bytes, writeOf-accepted}
 use Rattle.mapfile_laws.specs.RoundTrip.{ReadWritten}
-use Rattle.mapfile_laws.proofs.Back.{words-back, roster-back}
+use Rattle.mapfile_laws.specs.Totals.{fileEntries}
+use Rattle.mapfile_laws.proofs.Back.{words-back, entries-back, roster-back}
 
 -- a file is accepted where its items are
 accept : (m n t : ℕ) (bs rs : List ℕ) (ts : List Tile) → 5 ≤ length bs → fileOrder bs ≡ n → n ≤ highestOrder → fileCount bs ≡ t → t ≤ m → tilesCheck n t [] bs 5 ≡ accepted → map tileOf (wordsAt t bs 5) ≡ ts → drop (5 + 4 * t) bs ≡ rs → rosterCheck ts rs ≡ accepted → fileCheck m bs ≡ accepted
@@ -74,11 +77,17 @@ module _ (n : ℕ) (ts : List Tile) (o : n ≤ highestOrder) (v : Valid n ts) (a
   words-pass : wordsCheck n [] (wordsAt (length ts) (fileOf n ts) 5) ≡ accepted
   words-pass = wordsCheck-valid n o (wordsAt (length ts) (fileOf n ts) 5) .1 (rw tiles-back v)
 
+  entry-low : (e : Entry) → List·Memᴰ e (rosterOf ts) → e .pixels < 2 ^ 32
+  entry-low e m = omega (arith, rosterOf-pixels ts e m, covered-fits (e .account) o v)
+
+  pub fileOf-entries : fileEntries (fileOf n ts) ≡ rosterOf ts
+  fileOf-entries = rw (count-back, rest-back) (entries-back (rosterOf ts) (length (rosterOf ts) ∷ entriesBytes (rosterOf ts)) [] 1 entry-low (sym (append-nil (entriesBytes (rosterOf ts)))))
+
   pub fileOf-accepted : (m : ℕ) → length ts ≤ m → fileCheck m (fileOf n ts) ≡ accepted
   fileOf-accepted m c =
       accept m n (length ts) (fileOf n ts) (length (rosterOf ts) ∷ entriesBytes (rosterOf ts)) ts (omega (arith, fileOf-bytes n ts)) order-back o count-back c
       (tilesCheck-words n (length ts) [] (fileOf n ts) 5 (omega (arith, fileOf-bytes n ts)) words-pass) tiles-back rest-back
-      (roster-back ts (rosterOf ts) (rosterOf-good v a) (λ e m. omega (arith, rosterOf-pixels ts e m, covered-fits (e .account) o v)))
+      (roster-back ts (rosterOf ts) (rosterOf-good v a) entry-low)
 
   pub read-write : (slots : List ℕ) → length ts ≤ length slots →
       readOf (fileOf n ts) slots ≡ record { answer = record { number = accepted; order = n; tiles = length ts }; storage = filled (length slots) ts }
@@ -89,7 +98,7 @@ tiles-accounts : (ws : List ℕ) (t : Tile) → t ∈ map tileOf ws → t .accou
 tiles-accounts (w ∷ ws) t (List·Memᴰ·head e) = rw e (tileOf-account w)
 tiles-accounts (w ∷ ws) t (List·Memᴰ·tail m) = tiles-accounts ws t m
 
-slots-accounts : (t : ℕ) (slots : List ℕ) (u : Tile) → u ∈ tilesIn t slots → u .account ≤ highestAccount
+pub slots-accounts : (t : ℕ) (slots : List ℕ) (u : Tile) → u ∈ tilesIn t slots → u .account ≤ highestAccount
 unfolding tilesIn
 slots-accounts t slots u m = tiles-accounts (take t slots) u m
 

@@ -1,2 +1,4 @@
 -- What is promised of the map file.
 pub mod RoundTrip
+pub mod Totals
+pub mod Worked

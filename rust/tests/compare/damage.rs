@@ -143,9 +143,22 @@ pub fn file_case(random: &mut Random, count: &mut Count) {
         let mut kept = vec![0; room];
         assert_eq!(count.read(&again, &mut kept), (0, order, tiles));
         assert_eq!(kept, slots, "a list written and read again");
+        let (number, raster) = count.decode((order, tiles, &slots), &vec![0; area(order) as usize]);
+        assert_eq!(number, 0, "a list read and decoded");
+        tallies(&bytes[6 + 4 * tiles..], &raster);
+        tallies(&again[6 + 4 * tiles..], &raster);
     }
     let cut = random.below(bytes.len() + 1);
     count.read(&bytes[..cut], &mut slots);
+}
+
+/// Roster entries, in any order, have what a raster has: each account with pixels there once, with their number.
+fn tallies(entries: &[u8], raster: &[u8]) {
+    let total = |entry: &[u8]| (entry[0], entry[1..].iter().fold(0, |total, &byte| total << 8 | usize::from(byte)));
+    let mut listed: Vec<(u8, usize)> = entries.chunks(5).map(total).collect();
+    listed.sort();
+    let counted = (1..=u8::MAX).map(|account| (account, raster.iter().filter(|&&pixel| pixel == account).count()));
+    assert_eq!(listed, counted.filter(|&(_, pixels)| pixels > 0).collect::<Vec<_>>(), "the totals of a file");
 }
 
 /// The file of words that need not be a list: its roster has the tiles' areas where they can be summed.

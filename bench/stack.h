@@ -1,0 +1,10 @@
+/* How much stack a call takes. */
+#ifndef STACK_H
+#define STACK_H
+
+#include <stddef.h>
+
+/* The bytes of stack that a call writes to, those of its caller left out. */
+size_t stack_of(void (*call)(void *), void *handed);
+
+#endif

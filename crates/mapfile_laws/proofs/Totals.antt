@@ -1,0 +1,161 @@
+-- An account's total is the number of its pixels in the decoded raster.
+--     occurs-rows       an account occurs in a raster by rows as often as among its pixels
+--     covered-rows      the pixels that an account's tiles cover are its bytes in the raster of a valid list
+--     good-tallies      entries are the roster of a valid list exactly if they tally with that raster
+--     account-totals    all that is promised of totals
+use mathlib.Core.Path.{_≡_, refl, ap, sym, _∙_}
+use mathlib.Core.Bool.{true}
+use mathlib.Core.List.{List, [], _∷_, _++_, map, List·Memᴰ}
+use mathlib.Core.Logic.{_↔_}
+use Prim.Native.Nat.{ℕ, zero, suc, _+_, _-_, _*_, _^_, _≤_}
+use native.Mathlib.Nat.{add-zero}
+use native.Mathlib.Decide.{decLe}
+use native.Mathlib.Omega.{arith}
+use lib.Dec.{ltb, eqb}
+use lib.ListN.{length, take, drop, getD, replicate, length-append}
+use lib.Seq.{take-at}
+use Rattle.basics.specs.Choice.{if, count, tabulate}
+use Rattle.basics.proofs.Tests.{test-leb, test-eqb, told-true, test-true}
+use Rattle.basics.proofs.ChoiceLaws.{if-no}
+use Rattle.basics.proofs.CountLaws.{count-moved}
+use Rattle.refusal.specs.Refusal.{accepted}
+use Rattle.refusal.specs.Checks.{After}
+use Rattle.refusal.proofs.CheckLaws.{must-inv, else-inv}
+use Rattle.tile.specs.Tile.{Tile, tileOf}
+use Rattle.tile.specs.Slots.{tilesIn}
+use Rattle.quadtree.specs.Raster.{accountAt}
+use Rattle.quadtree.specs.Quadtree.{LinearQuadtree, quadtree}
+use Rattle.quadtree.specs.Valid.{Valid}
+use Rattle.quadtree.proofs.Linear.{linear-unique}
+use Rattle.quadtree.proofs.ValidLaws.{valid-quadrant, quadtree-valid, quadtree-shown}
+use Rattle.list_check.specs.ListCheck.{listCheck}
+use Rattle.list_check.proofs.Accepts.{listCheck-valid}
+use Rattle.bed.specs.declared.Kind.the-variants.{Rows}
+use Rattle.bed.specs.Places.{placeOf, pixelAt, rows}
+use Rattle.bed.proofs.PlaceLaws.{pixelAt-lt, placeOf-lt, placeOf-pixelAt, pixelAt-placeOf, rows-cong}
+use Rattle.decode.specs.Decode.{decodeOf}
+use Rattle.decode.proofs.DecodeLaws.{decodeOf-filled}
+use Rattle.mapfile_roster.specs.Roster.{covered, Entry, listed, rosterOf, rosterGood}
+use Rattle.mapfile_roster.proofs.CoveredLaws.{covered-pixels, covered-none}
+use Rattle.mapfile_roster.proofs.GoodLaws.{Right, test-good, listed-some}
+use Rattle.mapfile_roster.proofs.RosterLaws.{rosterOf-good}
+use Rattle.mapfile_entries.specs.RosterCheck.{entriesAt, rosterCheck}
+use Rattle.mapfile_read.specs.Reader.{fileOrder, fileCount, fileWords, fileCheck, readOf}
+use Rattle.mapfile_read.proofs.ReaderLaws.{Accepted, readOf-valid, readOf-accepted}
+use Rattle.mapfile_write.specs.Writer.{fileOf, writeCheck, writeOf}
+use Rattle.mapfile_write.proofs.WriterLaws.{writeOf-accepted}
+use Rattle.mapfile_laws.specs.Totals.{occurs, fileEntries, Tallies, Totals}
+use Rattle.mapfile_laws.proofs.RoundTrip.{fileOf-entries, slots-accounts}
+
+occurs-table : (a : ℕ) (g : ℕ → ℕ) (lo n : ℕ) → occurs a (tabulate g lo n) + count (λ i. eqb (g i) a) lo ≡ count (λ i. eqb (g i) a) (lo + n)
+unfolding occurs tabulate count
+occurs-table a g lo zero = rw (add-zero lo) (omega arith)
+occurs-table a g lo (suc n) =
+    let e : suc lo + n ≡ lo + suc n = omega arith in
+    omega (arith, occurs-table a g (suc lo) n, ap (count (λ i. eqb (g i) a)) e)
+
+pub occurs-rows : (a n : ℕ) (f : ℕ → ℕ) → occurs a (rows n f) ≡ count (λ z. eqb (f z) a) (4 ^ n)
+unfolding rows count
+occurs-rows a n f =
+    let z : 0 + 4 ^ n ≡ 4 ^ n = omega arith in
+    omega (
+      arith,
+      rw z at (occurs-table a (λ i. f (pixelAt Rows n i)) 0 (4 ^ n)),
+      count-moved (pixelAt Rows n) (placeOf Rows n) (4 ^ n) (pixelAt-lt Rows n) (placeOf-lt Rows n) (placeOf-pixelAt Rows n) (pixelAt-placeOf Rows n) (λ z. eqb (f z) a),
+    )
+
+module _ {n : ℕ} {ts : List Tile} (v : Valid n ts) where
+  pub covered-rows : (a : ℕ) → 1 ≤ a → covered a ts ≡ occurs a (rows n (accountAt ts))
+  covered-rows a o = covered-pixels a v o ∙ sym (occurs-rows a n (accountAt ts))
+
+  nobody-covered : covered 0 ts ≡ 0
+  nobody-covered = covered-none ts (λ t m e. omega (arith, valid-quadrant v m .owned))
+
+  module _ {es : List Entry} where
+    -- an account listed has tiles; so it is somebody's
+    somebody : listed 0 es ≡ 0 → (e : Entry) → List·Memᴰ e es → 1 ≤ e .account
+    somebody z e m = elim (decLe 1 (e .account)) [
+      | yes o ↦ o
+      | no o ↦ let q : e .account ≡ 0 = omega arith in absurd (omega (arith, rw q at (listed-some es e m)))
+    ]
+
+    right-tallies : Right ts es → Tallies (rows n (accountAt ts)) es
+    right-tallies r =
+        let z : listed 0 es ≡ 0 = r .once 0 ∙ if-no 1 0 (test-leb 1 (covered 0 ts)) (λ c. omega (arith, nobody-covered)) in
+        record {
+          totals = λ e m. r .pixels e m ∙ covered-rows (e .account) (somebody z e m);
+          once = λ a o. r .once a ∙ ap (λ (x : ℕ). if (ltb 0 x) 1 0) (covered-rows a o);
+          nobody = z;
+        }
+
+    tallies-right : Tallies (rows n (accountAt ts)) es → Right ts es
+    tallies-right t = record {
+      pixels = λ e m. t .totals e m ∙ sym (covered-rows (e .account) (somebody (t .nobody) e m));
+      once = once;
+    }
+      where
+        once : (a : ℕ) → listed a es ≡ if (ltb 0 (covered a ts)) 1 0
+        once zero = t .nobody ∙ sym (if-no 1 0 (test-leb 1 (covered 0 ts)) (λ c. omega (arith, nobody-covered)))
+        once (suc a) = t .once (suc a) (omega arith) ∙ ap (λ (x : ℕ). if (ltb 0 x) 1 0) (sym (covered-rows (suc a) (omega arith)))
+
+    pub good-tallies : (rosterGood ts es ≡ true) ↔ Tallies (rows n (accountAt ts)) es
+    good-tallies = (λ g. right-tallies (told-true (test-good ts es) g), λ t. test-true (test-good ts es) (tallies-right t))
+
+-- a linear quadtree is valid, and shows its raster on the bed
+linear-valid : {n : ℕ} {f : ℕ → ℕ} {ts : List Tile} → LinearQuadtree n f ts → Valid n ts
+linear-valid {n} {f} l = rw (linear-unique l) (quadtree-valid n f)
+
+linear-rows : {n : ℕ} {f : ℕ → ℕ} {ts : List Tile} → LinearQuadtree n f ts → rows n (accountAt ts) ≡ rows n f
+linear-rows {n} {f} {ts} l = rows-cong n (accountAt ts) f (λ z h. rw (linear-unique l) (quadtree-shown n f z h))
+
+-- what decoding a valid list leaves
+decoded-rows : (n t : ℕ) (slots raster : List ℕ) → listCheck n t slots ≡ accepted → length raster ≡ 4 ^ n → decodeOf n t slots raster .storage ≡ rows n (accountAt (tilesIn t slots))
+decoded-rows n t slots raster e l = ap (λ (x : After ℕ). x .storage) (decodeOf-filled n t slots raster e l)
+
+written-tallies : (n t : ℕ) (slots file raster : List ℕ) → writeCheck n t slots file ≡ accepted → length raster ≡ 4 ^ n →
+    Tallies (decodeOf n t slots raster .storage) (fileEntries (take (writeOf n t slots file .answer .length) (writeOf n t slots file .storage)))
+unfolding writeCheck
+written-tallies n t slots file raster e l =
+    let a = else-inv (listCheck n t slots) _ e in
+    let b = must-inv (test-leb (length (fileOf n (tilesIn t slots))) (length file)) (omega arith) (a .1) in
+    let v = listCheck-valid n t slots .0 (a .0) in
+    let ts : List Tile = tilesIn t slots in
+    rw (decoded-rows n t slots raster (a .0) l, writeOf-accepted n t slots file (a .0) (b .0), take-at (fileOf n ts) (drop (length (fileOf n ts)) file) (length (fileOf n ts)) refl, fileOf-entries n ts (v .0) (v .2) (slots-accounts t slots))
+    (good-tallies (v .2) .0 (rosterOf-good (v .2) (slots-accounts t slots)))
+
+-- the roster of an accepted file is right by its tiles
+roster-right : (ts : List Tile) (section : List ℕ) → rosterCheck ts section ≡ accepted → Right ts (entriesAt (getD section 0 0) section 1)
+unfolding rosterCheck
+roster-right ts section e =
+    let a = must-inv (test-leb 1 (length section)) (omega arith) e in
+    let b = must-inv (test-leb (1 + 5 * getD section 0 0) (length section)) (omega arith) (a .1) in
+    let c = must-inv (test-leb (length section) (1 + 5 * getD section 0 0)) (omega arith) (b .1) in
+    must-inv (test-good ts (entriesAt (getD section 0 0) section 1)) (omega arith) (c .1) .0
+
+-- the list of an accepted file in the slots passes the list checks
+module _ (file slots : List ℕ) (e : fileCheck (length slots) file ≡ accepted) where
+  reading : Accepted (length slots) file
+  reading = readOf-valid (length slots) file e
+
+  abbrev left : List ℕ
+  left = fileWords file ++ replicate (length slots - fileCount file) 0
+
+  tiles-left : tilesIn (fileCount file) left ≡ map tileOf (fileWords file)
+  unfolding tilesIn
+  tiles-left = ap (λ (ws : List ℕ). map tileOf ws) (take-at (fileWords file) (replicate (length slots - fileCount file) 0) (fileCount file) (reading .length-words))
+
+  left-accepted : listCheck (fileOrder file) (fileCount file) left ≡ accepted
+  left-accepted = listCheck-valid (fileOrder file) (fileCount file) left .1
+      (reading .order, omega (arith, length-append (fileWords file) (replicate (length slots - fileCount file) 0), reading .length-words), rw tiles-left (reading .valid))
+
+  read-tallies : (raster : List ℕ) → length raster ≡ 4 ^ fileOrder file → Tallies (decodeOf (fileOrder file) (fileCount file) left raster .storage) (fileEntries file)
+  read-tallies raster l = rw (decoded-rows (fileOrder file) (fileCount file) left raster left-accepted l, tiles-left) (right-tallies (reading .valid) (roster-right _ _ (reading .roster)))
+
+pub account-totals : Totals
+account-totals = record {
+  list = λ n f ts a l o. covered-rows (linear-valid l) a o ∙ ap (occurs a) (linear-rows l);
+  decoded = λ n t slots raster a e l o. covered-rows (listCheck-valid n t slots .0 e .2) a o ∙ ap (occurs a) (sym (decoded-rows n t slots raster e l));
+  roster = λ n f ts es l. rw (← linear-rows l) (good-tallies (linear-valid l));
+  written = written-tallies;
+  read = λ file slots raster e l. rw (readOf-accepted file slots e) (read-tallies file slots e raster (rw (readOf-accepted file slots e) at l));
+}

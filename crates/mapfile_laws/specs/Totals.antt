@@ -1,0 +1,65 @@
+-- "An account's total is proved to be the number of its pixels in the decoded raster" (document 02, request 2).
+-- Definitions only. The decoded raster is what decode leaves, 4 ^ order bytes; nobody's pixels have no tile and no total,
+-- so that accounts are from 1 on.
+--     occurs a bytes      how many of the bytes are a
+--     fileEntries file    the entries of a file's roster
+--     Tallies raster es   the entries es, in any order, are what the raster has: an account with pixels there has one
+--                         entry, and its total is the number of these pixels; no other account has an entry
+--     Totals              what is promised
+use mathlib.Core.Path.{_≡_}
+use mathlib.Core.Bool.{true}
+use mathlib.Core.List.{List, [], _∷_, List·Memᴰ}
+use mathlib.Core.Logic.{_↔_}
+use Prim.Native.Nat.{ℕ, _+_, _^_, _≤_}
+use lib.Dec.{ltb, eqb}
+use lib.ListN.{length, take, drop, getD}
+use Rattle.basics.specs.Choice.{if}
+use Rattle.refusal.specs.Refusal.{accepted}
+use Rattle.tile.specs.Tile.{Tile}
+use Rattle.tile.specs.Slots.{tilesIn}
+use Rattle.quadtree.specs.Quadtree.{LinearQuadtree}
+use Rattle.list_check.specs.ListCheck.{listCheck}
+use Rattle.bed.specs.Places.{rows}
+use Rattle.decode.specs.Decode.{decodeOf}
+use Rattle.mapfile_bytes.specs.Layout.{rosterPlace, entriesPlace}
+use Rattle.mapfile_roster.specs.Roster.{covered, Entry, listed, rosterGood}
+use Rattle.mapfile_entries.specs.RosterCheck.{entriesAt}
+use Rattle.mapfile_read.specs.Reader.{fileCount, fileCheck, readOf}
+use Rattle.mapfile_write.specs.Writer.{writeCheck, writeOf}
+
+unfoldable pub occurs : ℕ → List ℕ → ℕ
+occurs a [] = 0
+occurs a (b ∷ bytes) = if (eqb b a) 1 0 + occurs a bytes
+
+abbrev pub fileEntries : List ℕ → List Entry
+fileEntries file =
+    let section : List ℕ = drop (rosterPlace (fileCount file)) file in
+    entriesAt (getD section 0 0) section entriesPlace
+
+pub record Tallies (raster : List ℕ) (es : List Entry) : Type 0 where
+  pub totals : (e : Entry) → List·Memᴰ e es → e .pixels ≡ occurs (e .account) raster
+  pub once : (a : ℕ) → 1 ≤ a → listed a es ≡ if (ltb 0 (occurs a raster)) 1 0
+  pub nobody : listed 0 es ≡ 0
+
+pub record Totals : Type 0 where
+  -- the total by the tiles is the number of the account's pixels: for the linear quadtree of any raster, of any order ..
+  pub list : (n : ℕ) (f : ℕ → ℕ) (ts : List Tile) (a : ℕ) → LinearQuadtree n f ts → 1 ≤ a →
+      covered a ts ≡ occurs a (rows n f)
+  -- .. and so for any list that is accepted, in what decoding it leaves
+  pub decoded : (order tiles : ℕ) (slots raster : List ℕ) (a : ℕ) → listCheck order tiles slots ≡ accepted →
+      length raster ≡ 4 ^ order → 1 ≤ a →
+      covered a (tilesIn tiles slots) ≡ occurs a (decodeOf order tiles slots raster .storage)
+  -- what a reader accepts as the roster of the tiles, and refuses by 43 else, is what tallies with the raster
+  pub roster : (n : ℕ) (f : ℕ → ℕ) (ts : List Tile) (es : List Entry) → LinearQuadtree n f ts →
+      (rosterGood ts es ≡ true) ↔ Tallies (rows n f) es
+  -- a written file's roster tallies with what decoding the map leaves
+  pub written : (order tiles : ℕ) (slots file raster : List ℕ) → writeCheck order tiles slots file ≡ accepted →
+      length raster ≡ 4 ^ order →
+      Tallies (decodeOf order tiles slots raster .storage)
+      (fileEntries (take (writeOf order tiles slots file .answer .length) (writeOf order tiles slots file .storage)))
+  -- the roster of a file that was read tallies with what decoding the list read leaves
+  pub read : (file slots raster : List ℕ) →
+      let order : ℕ = readOf file slots .answer .order in
+      let tiles : ℕ = readOf file slots .answer .tiles in
+      fileCheck (length slots) file ≡ accepted → length raster ≡ 4 ^ order →
+      Tallies (decodeOf order tiles (readOf file slots .storage) raster .storage) (fileEntries file)
