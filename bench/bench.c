@@ -2,7 +2,8 @@
 
        bench/run [LOWEST ORDER [HIGHEST ORDER]]        6 and 10 unless given
 
-   Before anything is timed, every other way to build a list, and to combine two, must give the library's list. */
+   Before anything is timed, every other way to build a list, to combine two and to write a file must give the
+   library's. */
 #include "builds.h"
 #include "stack.h"
 #include "straight.h"
@@ -16,7 +17,7 @@
 struct bench {
     uint32_t order;
     size_t pixels, tiles, room;
-    uint8_t *rows, *morton, *raster, *file;
+    uint8_t *rows, *morton, *raster, *file, *copy;
     uint32_t *list, *slots, *other, *zones;
     struct linked *linked;
 };
@@ -284,8 +285,9 @@ static void rosters(struct bench *b, uint32_t order)
 {
     static const uint32_t accounts[] = {2, 4, 8, 16, 32, KB_HIGHEST_ACCOUNT};
     struct timing our_time, straight_time;
-    printf("\nRosters: files of noise, by the number of accounts. Nanoseconds for each tile × the library's time divided "
-           "by that of straightforward\nC, which keeps an array of totals; then the bytes of stack that a call takes.\n\n"
+    printf("\nRosters: files of noise, by the number of accounts. Nanoseconds for each tile × the library's time "
+           "divided by that of\nstraightforward C, which keeps an array of totals; then the bytes of stack that a call "
+           "takes.\n\n"
            "| order | accounts | tiles | write | read | stack to write | plain C | stack to read | plain C |\n"
            "|---|---|---|---|---|---|---|---|---|\n");
     b->order = order;
@@ -295,6 +297,12 @@ static void rosters(struct bench *b, uint32_t order)
         b->tiles = bottom_up(order, b->rows, b->list);
         size_t length = kb_write(order, b->tiles, b->list, b->tiles, b->file, KB_FILE_MOST(b->pixels)).length;
         struct filing ours = {b, length, kb_write, kb_read}, straight = {b, length, straight_write, straight_read};
+        memcpy(b->copy, b->file, length);
+        write_file(&straight);
+        if (memcmp(b->copy, b->file, length)) {
+            fprintf(stderr, "bench: straightforward C writes another file\n");
+            exit(1);
+        }
         fprintf(stderr, "rosters, order %u, %u accounts\n", order, accounts[i]);
         printf("| %u | %u | %zu ", order, accounts[i], b->tiles);
         BOTH(our_time, write_file(&ours), straight_time, write_file(&straight));
@@ -317,12 +325,13 @@ int main(int argc, char **argv)
     }
     size_t most = area(highest);
     struct bench b = {0};
-    b.rows = malloc(most), b.morton = malloc(most), b.raster = malloc(most), b.file = malloc(KB_FILE_MOST(most));
+    b.rows = malloc(most), b.morton = malloc(most), b.raster = malloc(most);
+    b.file = malloc(KB_FILE_MOST(most)), b.copy = malloc(KB_FILE_MOST(most));
     b.list = malloc((most + 40) * sizeof *b.list);
     b.slots = malloc((most + 40) * sizeof *b.slots);
     b.other = malloc(most * sizeof *b.other);
     b.zones = malloc(most * sizeof *b.zones);
-    if (!b.rows || !b.morton || !b.raster || !b.file || !b.list || !b.slots || !b.other || !b.zones)
+    if (!b.rows || !b.morton || !b.raster || !b.file || !b.copy || !b.list || !b.slots || !b.other || !b.zones)
         return 1;
     for (size_t i = 0; i < sizeof tables / sizeof *tables; i++)
         print(tables + i, &b, lowest, highest);

@@ -46,7 +46,7 @@
 #include <stddef.h>
 #include <stdint.h>
 
-#define KB_VERSION "0.3.0"
+#define KB_VERSION "0.4.0"
 
 /* An answer that is dropped is a mistake, of which the compiler warns. */
 #if (defined(__cplusplus) && __cplusplus >= 201703L) || (defined(__STDC_VERSION__) && __STDC_VERSION__ >= 202311L)
@@ -238,8 +238,9 @@ KB_MUST_USE kb_claim_answer kb_claim(uint32_t order, size_t tiles, uint32_t *slo
                                      uint32_t corner, uint32_t size, uint8_t account);
 
 /* Writes a map as a file: the order in 1 byte; the tile count in 4 and each word in 4; the number of roster entries in
-   1 and each entry in 5, an account and the pixels that it covers in 4. High bytes come first. The roster has each
-   account of the tiles once, by rising account. A file of t tiles and a accounts takes 6 + 4t + 5a bytes.
+   1 and each entry in 5, an account in 1 and in 4 the number of its pixels, as many as kb_decode gives it. High bytes
+   come first. The roster has each account of the tiles once, by rising account. A file of t tiles and a accounts takes
+   6 + 4t + 5a bytes.
      refuses   the list checks, KB_BYTES_TOO_FEW
      answers   the bytes written
      storage   accepted, the first bytes hold the file and those past it are as they were; refused, all are */

@@ -1,6 +1,6 @@
 -- "An account's total is proved to be the number of its pixels in the decoded raster" (document 02, request 2).
--- Definitions only. The decoded raster is what decode leaves, 4 ^ order bytes; nobody's pixels have no tile and no total,
--- so that accounts are from 1 on.
+-- Definitions only. The decoded raster is what decode leaves, 4 ^ order bytes. Accounts are from 1 on: nobody's pixels
+-- have no tile, and nobody has no total.
 --     occurs a bytes      how many of the bytes are a
 --     fileEntries file    the entries of a file's roster
 --     Tallies raster es   the entries es, in any order, are what the raster has: an account with pixels there has one
@@ -42,7 +42,7 @@ pub record Tallies (raster : List ℕ) (es : List Entry) : Type 0 where
   pub nobody : listed 0 es ≡ 0
 
 pub record Totals : Type 0 where
-  -- the total by the tiles is the number of the account's pixels: for the linear quadtree of any raster, of any order ..
+  -- the total by the tiles is the number of the account's pixels: in the linear quadtree of any raster of any order ..
   pub list : (n : ℕ) (f : ℕ → ℕ) (ts : List Tile) (a : ℕ) → LinearQuadtree n f ts → 1 ≤ a →
       covered a ts ≡ occurs a (rows n f)
   -- .. and so for any list that is accepted, in what decoding it leaves
