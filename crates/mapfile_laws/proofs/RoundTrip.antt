@@ -1,8 +1,8 @@
 -- Reading a written file yields the same order and list.
 --     fileOf-entries    the entries of the file of a valid list are its roster
 --     fileOf-accepted   the reader accepts the file of a valid list where there are slots for it
---     slots-accounts    the tiles in slots have accounts up to the highest
 --     read-write        and leaves the list in the slots, with its order and its tile count
+--     slots-accounts    the tiles of words in slots have accounts up to the highest
 --     read-written      the same of the two calls: what an accepted write left is read
 use mathlib.Core.Path.{_≡_, refl, ap, sym, _∙_}
 use mathlib.Core.List.{List, [], _∷_, map, append-nil, List·Memᴰ, List·Memᴰ·head, List·Memᴰ·tail}

@@ -5,7 +5,7 @@
 --     account-totals    all that is promised of totals
 use mathlib.Core.Path.{_≡_, refl, ap, sym, _∙_}
 use mathlib.Core.Bool.{true}
-use mathlib.Core.List.{List, [], _∷_, _++_, map, List·Memᴰ}
+use mathlib.Core.List.{List, _++_, map, List·Memᴰ}
 use mathlib.Core.Logic.{_↔_}
 use Prim.Native.Nat.{ℕ, zero, suc, _+_, _-_, _*_, _^_, _≤_}
 use native.Mathlib.Nat.{add-zero}
@@ -15,7 +15,7 @@ use lib.Dec.{ltb, eqb}
 use lib.ListN.{length, take, drop, getD, replicate, length-append}
 use lib.Seq.{take-at}
 use Rattle.basics.specs.Choice.{if, count, tabulate}
-use Rattle.basics.proofs.Tests.{test-leb, test-eqb, told-true, test-true}
+use Rattle.basics.proofs.Tests.{test-leb, told-true, test-true}
 use Rattle.basics.proofs.ChoiceLaws.{if-no}
 use Rattle.basics.proofs.CountLaws.{count-moved}
 use Rattle.refusal.specs.Refusal.{accepted}
@@ -24,10 +24,10 @@ use Rattle.refusal.proofs.CheckLaws.{must-inv, else-inv}
 use Rattle.tile.specs.Tile.{Tile, tileOf}
 use Rattle.tile.specs.Slots.{tilesIn}
 use Rattle.quadtree.specs.Raster.{accountAt}
-use Rattle.quadtree.specs.Quadtree.{LinearQuadtree, quadtree}
+use Rattle.quadtree.specs.Quadtree.{quadtree}
 use Rattle.quadtree.specs.Valid.{Valid}
 use Rattle.quadtree.proofs.Linear.{linear-unique}
-use Rattle.quadtree.proofs.ValidLaws.{valid-quadrant, quadtree-valid, quadtree-shown}
+use Rattle.quadtree.proofs.ValidLaws.{quadtree-valid, quadtree-shown}
 use Rattle.list_check.specs.ListCheck.{listCheck}
 use Rattle.list_check.proofs.Accepts.{listCheck-valid}
 use Rattle.bed.specs.declared.Kind.the-variants.{Rows}
@@ -35,12 +35,12 @@ use Rattle.bed.specs.Places.{placeOf, pixelAt, rows}
 use Rattle.bed.proofs.PlaceLaws.{pixelAt-lt, placeOf-lt, placeOf-pixelAt, pixelAt-placeOf, rows-cong}
 use Rattle.decode.specs.Decode.{decodeOf}
 use Rattle.decode.proofs.DecodeLaws.{decodeOf-filled}
-use Rattle.mapfile_roster.specs.Roster.{covered, Entry, listed, rosterOf, rosterGood}
-use Rattle.mapfile_roster.proofs.CoveredLaws.{covered-pixels, covered-none}
+use Rattle.mapfile_roster.specs.Roster.{covered, Entry, listed, rosterGood}
+use Rattle.mapfile_roster.proofs.CoveredLaws.{covered-pixels, covered-nobody}
 use Rattle.mapfile_roster.proofs.GoodLaws.{Right, test-good, listed-some}
 use Rattle.mapfile_roster.proofs.RosterLaws.{rosterOf-good}
 use Rattle.mapfile_entries.specs.RosterCheck.{entriesAt, rosterCheck}
-use Rattle.mapfile_read.specs.Reader.{fileOrder, fileCount, fileWords, fileCheck, readOf}
+use Rattle.mapfile_read.specs.Reader.{fileOrder, fileCount, fileWords, fileCheck}
 use Rattle.mapfile_read.proofs.ReaderLaws.{Accepted, readOf-valid, readOf-accepted}
 use Rattle.mapfile_write.specs.Writer.{fileOf, writeCheck, writeOf}
 use Rattle.mapfile_write.proofs.WriterLaws.{writeOf-accepted}
@@ -64,29 +64,34 @@ occurs-rows a n f =
       count-moved (pixelAt Rows n) (placeOf Rows n) (4 ^ n) (pixelAt-lt Rows n) (placeOf-lt Rows n) (placeOf-pixelAt Rows n) (pixelAt-placeOf Rows n) (λ z. eqb (f z) a),
     )
 
+-- how many entries an account of so many pixels has
+abbrev entriesOf : ℕ → ℕ
+entriesOf x = if (ltb 0 x) 1 0
+
+-- where nobody has no entry, each entry is somebody's
+somebody : {es : List Entry} → listed 0 es ≡ 0 → (e : Entry) → List·Memᴰ e es → 1 ≤ e .account
+somebody {es} z e m = elim (decLe 1 (e .account)) [
+  | yes o ↦ o
+  | no o ↦ let q : e .account ≡ 0 = omega arith in absurd (omega (arith, rw q at (listed-some es e m)))
+]
+
 module _ {n : ℕ} {ts : List Tile} (v : Valid n ts) where
   pub covered-rows : (a : ℕ) → 1 ≤ a → covered a ts ≡ occurs a (rows n (accountAt ts))
   covered-rows a o = covered-pixels a v o ∙ sym (occurs-rows a n (accountAt ts))
 
-  nobody-covered : covered 0 ts ≡ 0
-  nobody-covered = covered-none ts (λ t m e. omega (arith, valid-quadrant v m .owned))
+  entries-rows : (a : ℕ) → 1 ≤ a → entriesOf (covered a ts) ≡ entriesOf (occurs a (rows n (accountAt ts)))
+  entries-rows a o = ap (λ (x : ℕ). entriesOf x) (covered-rows a o)
+
+  nobody-none : entriesOf (covered 0 ts) ≡ 0
+  nobody-none = if-no 1 0 (test-leb 1 (covered 0 ts)) (λ c. omega (arith, covered-nobody v))
 
   module _ {es : List Entry} where
-    -- an account listed has tiles; so it is somebody's
-    somebody : listed 0 es ≡ 0 → (e : Entry) → List·Memᴰ e es → 1 ≤ e .account
-    somebody z e m = elim (decLe 1 (e .account)) [
-      | yes o ↦ o
-      | no o ↦ let q : e .account ≡ 0 = omega arith in absurd (omega (arith, rw q at (listed-some es e m)))
-    ]
-
     right-tallies : Right ts es → Tallies (rows n (accountAt ts)) es
-    right-tallies r =
-        let z : listed 0 es ≡ 0 = r .once 0 ∙ if-no 1 0 (test-leb 1 (covered 0 ts)) (λ c. omega (arith, nobody-covered)) in
-        record {
-          totals = λ e m. r .pixels e m ∙ covered-rows (e .account) (somebody z e m);
-          once = λ a o. r .once a ∙ ap (λ (x : ℕ). if (ltb 0 x) 1 0) (covered-rows a o);
-          nobody = z;
-        }
+    right-tallies r = record {
+      totals = λ e m. r .pixels e m ∙ covered-rows (e .account) (somebody (r .once 0 ∙ nobody-none) e m);
+      once = λ a o. r .once a ∙ entries-rows a o;
+      nobody = r .once 0 ∙ nobody-none;
+    }
 
     tallies-right : Tallies (rows n (accountAt ts)) es → Right ts es
     tallies-right t = record {
@@ -94,19 +99,16 @@ module _ {n : ℕ} {ts : List Tile} (v : Valid n ts) where
       once = once;
     }
       where
-        once : (a : ℕ) → listed a es ≡ if (ltb 0 (covered a ts)) 1 0
-        once zero = t .nobody ∙ sym (if-no 1 0 (test-leb 1 (covered 0 ts)) (λ c. omega (arith, nobody-covered)))
-        once (suc a) = t .once (suc a) (omega arith) ∙ ap (λ (x : ℕ). if (ltb 0 x) 1 0) (sym (covered-rows (suc a) (omega arith)))
+        once : (a : ℕ) → listed a es ≡ entriesOf (covered a ts)
+        once zero = t .nobody ∙ sym nobody-none
+        once (suc a) = t .once (suc a) (omega arith) ∙ sym (entries-rows (suc a) (omega arith))
 
     pub good-tallies : (rosterGood ts es ≡ true) ↔ Tallies (rows n (accountAt ts)) es
     good-tallies = (λ g. right-tallies (told-true (test-good ts es) g), λ t. test-true (test-good ts es) (tallies-right t))
 
--- a linear quadtree is valid, and shows its raster on the bed
-linear-valid : {n : ℕ} {f : ℕ → ℕ} {ts : List Tile} → LinearQuadtree n f ts → Valid n ts
-linear-valid {n} {f} l = rw (linear-unique l) (quadtree-valid n f)
-
-linear-rows : {n : ℕ} {f : ℕ → ℕ} {ts : List Tile} → LinearQuadtree n f ts → rows n (accountAt ts) ≡ rows n f
-linear-rows {n} {f} {ts} l = rows-cong n (accountAt ts) f (λ z h. rw (linear-unique l) (quadtree-shown n f z h))
+-- what a linear quadtree shows, by rows, is its raster
+shown-rows : (n : ℕ) (f : ℕ → ℕ) → rows n (accountAt (quadtree n f)) ≡ rows n f
+shown-rows n f = rows-cong n (accountAt (quadtree n f)) f (quadtree-shown n f)
 
 -- what decoding a valid list leaves
 decoded-rows : (n t : ℕ) (slots raster : List ℕ) → listCheck n t slots ≡ accepted → length raster ≡ 4 ^ n → decodeOf n t slots raster .storage ≡ rows n (accountAt (tilesIn t slots))
@@ -132,7 +134,7 @@ roster-right ts section e =
     let c = must-inv (test-leb (length section) (1 + 5 * getD section 0 0)) (omega arith) (b .1) in
     must-inv (test-good ts (entriesAt (getD section 0 0) section 1)) (omega arith) (c .1) .0
 
--- the list of an accepted file in the slots passes the list checks
+-- what a reading leaves passes the list checks, and is decoded
 module _ (file slots : List ℕ) (e : fileCheck (length slots) file ≡ accepted) where
   reading : Accepted (length slots) file
   reading = readOf-valid (length slots) file e
@@ -153,9 +155,9 @@ module _ (file slots : List ℕ) (e : fileCheck (length slots) file ≡ accepted
 
 pub account-totals : Totals
 account-totals = record {
-  list = λ n f ts a l o. covered-rows (linear-valid l) a o ∙ ap (occurs a) (linear-rows l);
+  list = λ n f ts a l o. rw (linear-unique l) (covered-rows (quadtree-valid n f) a o ∙ ap (occurs a) (shown-rows n f));
   decoded = λ n t slots raster a e l o. covered-rows (listCheck-valid n t slots .0 e .2) a o ∙ ap (occurs a) (sym (decoded-rows n t slots raster e l));
-  roster = λ n f ts es l. rw (← linear-rows l) (good-tallies (linear-valid l));
+  roster = λ n f ts es l. rw (linear-unique l, ← shown-rows n f) (good-tallies (quadtree-valid n f));
   written = written-tallies;
   read = λ file slots raster e l. rw (readOf-accepted file slots e) (read-tallies file slots e raster (rw (readOf-accepted file slots e) at l));
 }

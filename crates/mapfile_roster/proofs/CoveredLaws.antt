@@ -4,6 +4,7 @@
 --     covered-fits      nor than the largest bed has
 --     covered-some      the account of a tile covers some
 --     covered-none      an account without tiles covers none
+--     covered-nobody    so nobody does, in a valid list
 use mathlib.Core.Path.{_≡_, refl, ap, sym, _∙_}
 use mathlib.Core.Bool.{Bool, true, false}
 use mathlib.Core.List.{List, [], _∷_, List·Memᴰ·head, List·Memᴰ·tail}
@@ -19,7 +20,7 @@ use Rattle.quadtree.specs.Raster.{Uniform, accountAt, _∈_}
 use Rattle.quadtree.specs.Valid.{Valid}
 use Rattle.quadtree.proofs.Alignment.{area-pos, area-mono}
 use Rattle.quadtree.proofs.Tiling.{Tiling, none, next}
-use Rattle.quadtree.proofs.ValidLaws.{valid-tiling}
+use Rattle.quadtree.proofs.ValidLaws.{valid-tiling, valid-quadrant}
 use Rattle.mapfile_roster.specs.Roster.{covered}
 
 if-suc : (b : Bool) (w : ℕ) → if b 1 0 + if b w 0 ≡ if b (suc w) 0
@@ -89,3 +90,6 @@ unfolding covered
 covered-none [] h = refl
 covered-none {a} (t ∷ ts) h =
     omega (arith, if-no (4 ^ t .size) 0 (test-eqb (t .account) a) (h t (List·Memᴰ·head refl)), covered-none {a = a} ts (λ u m. h u (List·Memᴰ·tail m)))
+
+pub covered-nobody : {n : ℕ} {ts : List Tile} → Valid n ts → covered 0 ts ≡ 0
+covered-nobody {ts = ts} v = covered-none ts (λ t m e. omega (arith, valid-quadrant v m .owned))

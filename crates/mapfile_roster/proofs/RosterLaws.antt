@@ -25,7 +25,7 @@ use Rattle.quadtree.specs.Raster.{_∈_}
 use Rattle.quadtree.specs.Valid.{Valid}
 use Rattle.quadtree.proofs.ValidLaws.{valid-quadrant}
 use Rattle.mapfile_roster.specs.Roster.{covered, Entry, rosterFrom, rosterOf, listed, entryGood, entriesGood, tilesListed, rosterGood}
-use Rattle.mapfile_roster.proofs.CoveredLaws.{covered-some, covered-none}
+use Rattle.mapfile_roster.proofs.CoveredLaws.{covered-some, covered-nobody}
 
 pub data ByAccount : ℕ → List Entry → Type 0 where
   end : {lo : ℕ} → ByAccount lo []
@@ -130,9 +130,7 @@ module _ (ts : List Tile) where
 
 module _ {n : ℕ} {ts : List Tile} (v : Valid n ts) where
   pub rosterOf-length : length (rosterOf ts) ≡ accountsOf ts
-  rosterOf-length =
-      let z : covered 0 ts ≡ 0 = covered-none ts (λ t m e. omega (arith, valid-quadrant v m .owned)) in
-      omega (arith, rosterFrom-count ts 1 highestAccount, count-first ts z)
+  rosterOf-length = omega (arith, rosterFrom-count ts 1 highestAccount, count-first ts (covered-nobody v))
 
   pub rosterOf-good : ((t : Tile) → t ∈ ts → t .account ≤ highestAccount) → rosterGood ts (rosterOf ts) ≡ true
   unfolding rosterGood
