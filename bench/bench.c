@@ -2,8 +2,8 @@
 
        bench/run [LOWEST ORDER [HIGHEST ORDER]]        6 and 10 unless given
 
-   Before anything is timed, every other way to build a list, to combine two and to write a file must give the
-   library's. */
+   No other way to build a list, to combine two or to write and read a file is timed in its own table before it has
+   given what the library gives. */
 #include "builds.h"
 #include "stack.h"
 #include "straight.h"
@@ -260,7 +260,7 @@ static void print(const struct table *table, struct bench *b, uint32_t lowest, u
 typedef kb_write_answer write_call(uint32_t, size_t, const uint32_t *, size_t, uint8_t *, size_t);
 typedef kb_read_answer read_call(const uint8_t *, size_t, uint32_t *, size_t);
 
-/* A map file, and who writes and reads it. */
+/* A map file, and the two calls that write and read it. */
 struct filing {
     struct bench *b;
     size_t length;
@@ -277,10 +277,10 @@ static void write_file(void *handed)
 static void read_file(void *handed)
 {
     struct filing *f = handed;
-    must(f->read(f->b->file, f->length, f->b->slots, f->b->tiles).number);
+    must(f->read(f->b->file, f->length, f->b->slots, f->b->tiles + 1).number);
 }
 
-/* The table of rosters: a file's two calls by the number of accounts, with the stack that each takes. */
+/* The table of rosters: writing and reading a file, by the number of accounts, and the stack that each takes. */
 static void rosters(struct bench *b, uint32_t order)
 {
     static const uint32_t accounts[] = {2, 4, 8, 16, 32, KB_HIGHEST_ACCOUNT};
@@ -298,9 +298,12 @@ static void rosters(struct bench *b, uint32_t order)
         size_t length = kb_write(order, b->tiles, b->list, b->tiles, b->file, KB_FILE_MOST(b->pixels)).length;
         struct filing ours = {b, length, kb_write, kb_read}, straight = {b, length, straight_write, straight_read};
         memcpy(b->copy, b->file, length);
+        memset(b->file, 0xff, length);
+        memset(b->slots, 0xff, b->tiles * sizeof *b->slots);
         write_file(&straight);
-        if (memcmp(b->copy, b->file, length)) {
-            fprintf(stderr, "bench: straightforward C writes another file\n");
+        read_file(&straight);
+        if (memcmp(b->copy, b->file, length) || memcmp(b->slots, b->list, b->tiles * sizeof *b->list)) {
+            fprintf(stderr, "bench: straightforward C writes or reads another file\n");
             exit(1);
         }
         fprintf(stderr, "rosters, order %u, %u accounts\n", order, accounts[i]);

@@ -25,7 +25,7 @@ size_t linked_most(const struct linked *scan); /* the most tiles after any pixel
 extern const char *const bed_names[BED_KINDS];
 void make_bed(int kind, uint32_t order, uint8_t *raster);
 
-/* One of so many accounts on each pixel, and nobody on none. */
+/* Noise: each pixel has one of the accounts from 1 to `accounts`, at random. */
 void make_noise(uint32_t accounts, uint32_t order, uint8_t *raster);
 
 /* Reserved zones, the second map where two are combined: few and large rectangles. */

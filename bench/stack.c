@@ -1,7 +1,8 @@
-/* A call on a stack of its own, which is painted before; what is not painted any more was taken. */
+/* Makes a call on a stack of its own, which is filled with one byte beforehand; what has changed, the call used. */
 #include "stack.h"
 
 #include <stdint.h>
+#include <stdlib.h>
 #include <string.h>
 #include <ucontext.h>
 
@@ -11,26 +12,29 @@ static uint8_t stack[1 << 16];
 static ucontext_t caller, callee;
 static void (*called)(void *);
 static void *handed_on;
+static volatile uint8_t *top; /* where the call begins */
 
-static void run(void) { called(handed_on); }
-
-static void nothing(void *handed) { (void)handed; }
-
-static size_t deepest(void (*call)(void *), void *handed)
+static void run(void)
 {
-    size_t painted = 0;
+    top = __builtin_frame_address(0);
+    called(handed_on);
+}
+
+size_t stack_of(void (*call)(void *), void *handed)
+{
+    volatile uint8_t *deepest = stack;
     memset(stack, PAINT, sizeof stack);
     called = call;
     handed_on = handed;
-    getcontext(&callee);
+    if (getcontext(&callee))
+        abort();
     callee.uc_stack.ss_sp = stack;
     callee.uc_stack.ss_size = sizeof stack;
     callee.uc_link = &caller;
     makecontext(&callee, run, 0);
-    swapcontext(&caller, &callee);
-    while (painted < sizeof stack && stack[painted] == PAINT)
-        painted++;
-    return sizeof stack - painted;
+    if (swapcontext(&caller, &callee))
+        abort();
+    while (deepest < top && *deepest == PAINT)
+        deepest++;
+    return (size_t)(top - deepest);
 }
-
-size_t stack_of(void (*call)(void *), void *handed) { return deepest(call, handed) - deepest(nothing, NULL); }

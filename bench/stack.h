@@ -4,7 +4,7 @@
 
 #include <stddef.h>
 
-/* The bytes of stack that a call writes to, those of its caller left out. */
+/* The bytes of stack that a call writes to, with its return address and the frame of `call` itself. */
 size_t stack_of(void (*call)(void *), void *handed);
 
 #endif

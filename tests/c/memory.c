@@ -1,5 +1,5 @@
 /* The stack that writing and reading a map file take, on a bed with all accounts: less than an array with a total for
-   each of them. 0 if so. */
+   each of them. The status is 0 if so. */
 #include "kingletbed.h"
 #include "stack.h"
 
@@ -30,11 +30,13 @@ static void read_bed(void *unused)
     bed.number = kb_read(bed.file, bed.length, bed.slots, PIXELS).number;
 }
 
-static int takes(const char *what, void (*call)(void *))
+static int takes_little(const char *what, void (*call)(void *))
 {
-    size_t array = KB_HIGHEST_ACCOUNT * sizeof(uint32_t), stack = stack_of(call, NULL);
+    size_t array = KB_HIGHEST_ACCOUNT * sizeof(uint32_t), stack;
+    bed.number = KB_ORDER_TOO_LARGE; /* unless the call answers */
+    stack = stack_of(call, NULL);
     printf("%s: %zu bytes of stack, refusal %u; an array of totals takes %zu\n", what, stack, bed.number, array);
-    return bed.number == KB_ACCEPTED && stack < array;
+    return bed.number == KB_ACCEPTED && stack > 0 && stack < array;
 }
 
 int main(void)
@@ -45,7 +47,7 @@ int main(void)
     kb_fresh_answer fresh = kb_fresh(KB_ROWS, 3, bed.slots, PIXELS);
     kb_feed_answer fed = kb_feed(KB_ROWS, 3, fresh.pixels, fresh.tiles, bed.slots, PIXELS, accounts, PIXELS);
     bed.tiles = fed.tiles;
-    int written = fed.number == KB_ACCEPTED && takes("writing", write_bed);
-    int read = takes("reading", read_bed);
+    int written = fed.number == KB_ACCEPTED && takes_little("writing", write_bed);
+    int read = takes_little("reading", read_bed);
     return written && read && bed.length == KB_FILE_MOST(PIXELS - 1) ? 0 : 1;
 }

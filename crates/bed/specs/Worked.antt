@@ -11,12 +11,16 @@ use Rattle.bed.specs.declared.Kind.the-variants.{Rows}
 use Rattle.bed.specs.Places.{rows}
 use Rattle.bed.specs.Bed.{Bed, bedOf, BedFed, freshBed, feedBed, claimed, claimCheck}
 
--- bed M, order 2, by Morton number and by rows
+-- bed M, order 2, by Morton number, by rows, and as the words of its list: (0, 1, 5) (7, 0, 9) (8, 0, 9) (12, 1, 9), by
+-- corner, size, account
 abbrev pub bedM : ℕ → ℕ
 bedM z = getD (5 ∷ 5 ∷ 5 ∷ 5 ∷ 0 ∷ 0 ∷ 0 ∷ 9 ∷ 9 ∷ 0 ∷ 0 ∷ 0 ∷ 9 ∷ 9 ∷ 9 ∷ 9 ∷ []) z 0
 
 abbrev pub rowsM : List ℕ
 rowsM = 5 ∷ 5 ∷ 0 ∷ 0 ∷ 5 ∷ 5 ∷ 0 ∷ 9 ∷ 9 ∷ 0 ∷ 9 ∷ 9 ∷ 0 ∷ 0 ∷ 9 ∷ 9 ∷ []
+
+abbrev pub wordsM : List ℕ
+wordsM = 69 ∷ 7177 ∷ 8201 ∷ 12361 ∷ []
 
 -- a bed of order 2 by rows with the first row scanned and nobody's, and then (3, size 0) claimed
 abbrev pub claimedEarly : Bed

@@ -8,10 +8,10 @@ use Rattle.quadtree.specs.Quadtree.{single, four, blocks, quadtree}
 use Rattle.list_check.specs.ListCheck.{follows, lastOfFour, ended, soundCheck, wordCheck, wordsCheck, listCheck}
 use Rattle.combine_rule.specs.Rule.{ruleOf}
 use Rattle.combine.specs.Combine.{mapsCheck, combineRefusal, combineBy}
-use Rattle.combine.specs.Worked.{bedM, zones, threeSlots, CombineLines}
+use Rattle.combine.specs.Worked.{zones, threeSlots, CombineLines}
 
 pub combine-lines : CombineLines
-unfolding must orElse unless wordOf tileOf tilesIn filled aligned uniform accountAt single four blocks quadtree follows lastOfFour ended soundCheck wordCheck wordsCheck listCheck ruleOf mapsCheck combineRefusal combineBy bedM zones threeSlots
+unfolding must orElse unless wordOf tileOf tilesIn filled aligned uniform accountAt single four blocks quadtree follows lastOfFour ended soundCheck wordCheck wordsCheck listCheck ruleOf mapsCheck combineRefusal combineBy zones threeSlots
 combine-lines = record {
   inside = refl;
   outside = refl;

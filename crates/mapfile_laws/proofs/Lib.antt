@@ -2,8 +2,8 @@
 --     Back             words, entries and rosters that were written are read back
 --     RoundTrip        reading a written file yields the same order and list
 --     Totals           an account's total is the number of its pixels in the decoded raster
---     TotalsComputed   the worked lines of totals, computed
+--     Computed         the worked lines of totals
 pub mod Back
 pub mod RoundTrip
 pub mod Totals
-pub mod TotalsComputed
+pub mod Computed

@@ -18,9 +18,9 @@ use Rattle.basics.specs.Choice.{if, count, tabulate}
 use Rattle.basics.proofs.Tests.{test-leb, told-true, test-true}
 use Rattle.basics.proofs.ChoiceLaws.{if-no}
 use Rattle.basics.proofs.CountLaws.{count-moved}
-use Rattle.refusal.specs.Refusal.{accepted}
+use Rattle.refusal.specs.Refusal.{accepted, rosterWrong}
 use Rattle.refusal.specs.Checks.{After}
-use Rattle.refusal.proofs.CheckLaws.{must-inv, else-inv}
+use Rattle.refusal.proofs.CheckLaws.{must-on, must-inv, must-other, else-inv}
 use Rattle.tile.specs.Tile.{Tile, tileOf}
 use Rattle.tile.specs.Slots.{tilesIn}
 use Rattle.quadtree.specs.Raster.{accountAt}
@@ -41,7 +41,7 @@ use Rattle.mapfile_roster.proofs.GoodLaws.{Right, test-good, listed-some}
 use Rattle.mapfile_roster.proofs.RosterLaws.{rosterOf-good}
 use Rattle.mapfile_entries.specs.RosterCheck.{entriesAt, rosterCheck}
 use Rattle.mapfile_read.specs.Reader.{fileOrder, fileCount, fileWords, fileCheck}
-use Rattle.mapfile_read.proofs.ReaderLaws.{Accepted, readOf-valid, readOf-accepted}
+use Rattle.mapfile_read.proofs.ReaderLaws.{Accepted, readOf-valid, readOf-accepted, readOf-wrong}
 use Rattle.mapfile_write.specs.Writer.{fileOf, writeCheck, writeOf}
 use Rattle.mapfile_write.proofs.WriterLaws.{writeOf-accepted}
 use Rattle.mapfile_laws.specs.Totals.{occurs, fileEntries, Tallies, Totals}
@@ -134,6 +134,18 @@ roster-right ts section e =
     let c = must-inv (test-leb (length section) (1 + 5 * getD section 0 0)) (omega arith) (b .1) in
     must-inv (test-good ts (entriesAt (getD section 0 0) section 1)) (omega arith) (c .1) .0
 
+-- a roster that is refused is not right
+roster-wrong : (ts : List Tile) (section : List ℕ) → rosterCheck ts section ≡ rosterWrong → Right ts (entriesAt (getD section 0 0) section 1) → ⊥
+unfolding rosterCheck
+roster-wrong ts section e r =
+    let a = must-other (test-leb 1 (length section)) (λ q. omega arith) e in
+    let b = must-other (test-leb (1 + 5 * getD section 0 0) (length section)) (λ q. omega arith) (a .1) in
+    let c = must-other (test-leb (length section) (1 + 5 * getD section 0 0)) (λ q. omega arith) (b .1) in
+    omega (arith, c .1, must-on rosterWrong accepted (test-good ts (entriesAt (getD section 0 0) section 1)) r)
+
+refused-tallies : (m : ℕ) (file : List ℕ) → fileCheck m file ≡ rosterWrong → Tallies (rows (fileOrder file) (accountAt (map tileOf (fileWords file)))) (fileEntries file) → ⊥
+refused-tallies m file e t = let w = readOf-wrong m file e in roster-wrong _ _ (w .1) (tallies-right (w .0) t)
+
 -- what a reading leaves passes the list checks, and is decoded
 module _ (file slots : List ℕ) (e : fileCheck (length slots) file ≡ accepted) where
   reading : Accepted (length slots) file
@@ -160,4 +172,5 @@ account-totals = record {
   roster = λ n f ts es l. rw (linear-unique l, ← shown-rows n f) (good-tallies (quadtree-valid n f));
   written = written-tallies;
   read = λ file slots raster e l. rw (readOf-accepted file slots e) (read-tallies file slots e raster (rw (readOf-accepted file slots e) at l));
+  refused = refused-tallies;
 }

@@ -1,6 +1,6 @@
 -- "An account's total is proved to be the number of its pixels in the decoded raster" (document 02, request 2).
--- Definitions only. The decoded raster is what decode leaves, 4 ^ order bytes. Accounts are from 1 on: nobody's pixels
--- have no tile, and nobody has no total.
+-- Definitions only. The decoded raster is what decode leaves, 4 ^ order bytes. Accounts are from 1 on: there is no tile
+-- for nobody's pixels, and no total.
 --     occurs a bytes      how many of the bytes are a
 --     fileEntries file    the entries of a file's roster
 --     Tallies raster es   the entries es, in any order, are what the raster has: an account with pixels there has one
@@ -8,15 +8,16 @@
 --     Totals              what is promised
 use mathlib.Core.Path.{_≡_}
 use mathlib.Core.Bool.{true}
-use mathlib.Core.List.{List, [], _∷_, List·Memᴰ}
+use mathlib.Core.List.{List, [], _∷_, map, List·Memᴰ}
 use mathlib.Core.Logic.{_↔_}
 use Prim.Native.Nat.{ℕ, _+_, _^_, _≤_}
 use lib.Dec.{ltb, eqb}
 use lib.ListN.{length, take, drop, getD}
 use Rattle.basics.specs.Choice.{if}
-use Rattle.refusal.specs.Refusal.{accepted}
-use Rattle.tile.specs.Tile.{Tile}
+use Rattle.refusal.specs.Refusal.{accepted, rosterWrong}
+use Rattle.tile.specs.Tile.{Tile, tileOf}
 use Rattle.tile.specs.Slots.{tilesIn}
+use Rattle.quadtree.specs.Raster.{accountAt}
 use Rattle.quadtree.specs.Quadtree.{LinearQuadtree}
 use Rattle.list_check.specs.ListCheck.{listCheck}
 use Rattle.bed.specs.Places.{rows}
@@ -24,7 +25,7 @@ use Rattle.decode.specs.Decode.{decodeOf}
 use Rattle.mapfile_bytes.specs.Layout.{rosterPlace, entriesPlace}
 use Rattle.mapfile_roster.specs.Roster.{covered, Entry, listed, rosterGood}
 use Rattle.mapfile_entries.specs.RosterCheck.{entriesAt}
-use Rattle.mapfile_read.specs.Reader.{fileCount, fileCheck, readOf}
+use Rattle.mapfile_read.specs.Reader.{fileOrder, fileCount, fileWords, fileCheck, readOf}
 use Rattle.mapfile_write.specs.Writer.{writeCheck, writeOf}
 
 unfoldable pub occurs : ℕ → List ℕ → ℕ
@@ -49,7 +50,7 @@ pub record Totals : Type 0 where
   pub decoded : (order tiles : ℕ) (slots raster : List ℕ) (a : ℕ) → listCheck order tiles slots ≡ accepted →
       length raster ≡ 4 ^ order → 1 ≤ a →
       covered a (tilesIn tiles slots) ≡ occurs a (decodeOf order tiles slots raster .storage)
-  -- what a reader accepts as the roster of the tiles, and refuses by 43 else, is what tallies with the raster
+  -- the entries that are the roster of the tiles are those that tally with the raster
   pub roster : (n : ℕ) (f : ℕ → ℕ) (ts : List Tile) (es : List Entry) → LinearQuadtree n f ts →
       (rosterGood ts es ≡ true) ↔ Tallies (rows n f) es
   -- a written file's roster tallies with what decoding the map leaves
@@ -63,3 +64,6 @@ pub record Totals : Type 0 where
       let tiles : ℕ = readOf file slots .answer .tiles in
       fileCheck (length slots) file ≡ accepted → length raster ≡ 4 ^ order →
       Tallies (decodeOf order tiles (readOf file slots .storage) raster .storage) (fileEntries file)
+  -- .. and that of a file that is refused by 43 does not tally with the raster of its tiles
+  pub refused : (m : ℕ) (file : List ℕ) → fileCheck m file ≡ rosterWrong →
+      Tallies (rows (fileOrder file) (accountAt (map tileOf (fileWords file)))) (fileEntries file) → ⊥

@@ -1,19 +1,18 @@
 -- Worked lines of totals, as one table, on bed M of document 01. All are computed by the checker
--- (proofs/TotalsComputed.antt). M has order 2 and the rows 5 5 0 0 / 5 5 0 9 / 9 0 9 9 / 0 0 9 9.
+-- (proofs/Computed.antt). M has order 2, the rows 5 5 0 0 / 5 5 0 9 / 9 0 9 9 / 0 0 9 9, and the tiles (0, 1, 5)
+-- (7, 0, 9) (8, 0, 9) (12, 1, 9), by corner, size, account.
 use mathlib.Core.Path.{_≡_}
-use mathlib.Core.List.{List, [], _∷_}
+use mathlib.Core.List.{List, [], _∷_, _++_}
 use Prim.Native.Nat.{ℕ}
-use lib.ListN.{replicate}
+use lib.ListN.{take, replicate}
+use Rattle.refusal.specs.Refusal.{accepted, rosterWrong}
 use Rattle.tile.specs.Slots.{tilesIn}
-use Rattle.bed.specs.Worked.{rowsM}
+use Rattle.bed.specs.Worked.{rowsM, wordsM}
 use Rattle.decode.specs.Decode.{decodeOf}
 use Rattle.mapfile_roster.specs.Roster.{covered}
+use Rattle.mapfile_read.specs.Reader.{readOf}
 use Rattle.mapfile_write.specs.Writer.{writeOf}
 use Rattle.mapfile_laws.specs.Totals.{occurs, fileEntries}
-
--- (0, 1, 5) (7, 0, 9) (8, 0, 9) (12, 1, 9), by corner, size, account
-unfoldable pub wordsM : List ℕ
-wordsM = 69 ∷ 7177 ∷ 8201 ∷ 12361 ∷ []
 
 -- order; tile count; the four words; two entries: account 5 with 4 pixels, account 9 with 6
 unfoldable pub fileM : List ℕ
@@ -22,9 +21,16 @@ fileM =
     ∷ 2 ∷ 5 ∷ 0 ∷ 0 ∷ 0 ∷ 4 ∷ 9 ∷ 0 ∷ 0 ∷ 0 ∷ 6 ∷ []
 
 pub record TotalLines : Type 0 where
-  -- decoded, M's list gives its rows, and written, its file
+  -- decoded, M's list gives its rows, written, its file, and that is read back
   pub M-decoded : decodeOf 2 4 wordsM (replicate 16 1) .storage ≡ rowsM
-  pub M-written : writeOf 2 4 wordsM (replicate 32 1) .storage ≡ fileM
+  pub M-written : writeOf 2 4 wordsM (replicate 33 1) ≡ record {
+    answer = record { number = accepted; length = 32 };
+    storage = fileM ++ 1 ∷ [];
+  }
+  pub M-read : readOf fileM (replicate 5 1) ≡ record {
+    answer = record { number = accepted; order = 2; tiles = 4 };
+    storage = wordsM ++ 0 ∷ [];
+  }
   -- account 5 has one tile and four pixels, account 9 has three tiles and six pixels
   pub M-tiles-5 : covered 5 (tilesIn 4 wordsM) ≡ 4
   pub M-rows-5 : occurs 5 rowsM ≡ 4
@@ -32,6 +38,12 @@ pub record TotalLines : Type 0 where
   pub M-rows-9 : occurs 9 rowsM ≡ 6
   pub M-entries : fileEntries fileM
       ≡ record { account = 5; pixels = 4 } ∷ record { account = 9; pixels = 6 } ∷ []
-  -- nobody has no tile, and six pixels: accounts are from 1 on
+  -- three for account 9, which is the number of its tiles, is refused, and so is one pixel too many
+  pub M-tiles-for-pixels : readOf (take 31 fileM ++ 3 ∷ []) (replicate 5 1) .answer .number ≡ rosterWrong
+  pub M-one-more : readOf (take 31 fileM ++ 7 ∷ []) (replicate 5 1) .answer .number ≡ rosterWrong
+  -- account 0 has no tile, though six pixels: accounts are from 1 on
   pub M-tiles-0 : covered 0 (tilesIn 4 wordsM) ≡ 0
   pub M-rows-0 : occurs 0 rowsM ≡ 6
+  -- an empty bed's roster has no entry; one tile of order 10 has all 4^10 pixels
+  pub empty-written : writeOf 0 0 [] (replicate 6 1) .storage ≡ 0 ∷ 0 ∷ 0 ∷ 0 ∷ 0 ∷ 0 ∷ []
+  pub whole-bed : covered 63 (tilesIn 1 (703 ∷ [])) ≡ 1048576

@@ -4,17 +4,18 @@
 --     Accepted m bs      the order, the count, the list and the roster of a file that is accepted with m slots
 --     readOf-valid       a file that the reader accepts has them
 --     readOf-accepted    what the reader then answers and leaves
+--     readOf-wrong       a file that the reader refuses by 43 has a valid list, and it is the roster section that is refused
 use mathlib.Core.Path.{_≡_, refl, sym, _∙_}
 use mathlib.Core.List.{List, [], _∷_, _++_, map}
 use Prim.Native.Nat.{ℕ, zero, suc, _+_, _-_, _*_, _≤_}
 use native.Mathlib.Omega.{arith}
 use lib.ListN.{length, drop, replicate}
 use Rattle.basics.proofs.Tests.{test-leb}
-use Rattle.refusal.specs.Refusal.{accepted, fileCutShort}
-use Rattle.refusal.proofs.CheckLaws.{must-on, must-inv, else-on, else-inv, unless-on}
+use Rattle.refusal.specs.Refusal.{accepted, fileCutShort, rosterWrong}
+use Rattle.refusal.proofs.CheckLaws.{must-on, must-inv, must-other, must-low, else-on, else-inv, else-other, else-low, unless-on}
 use Rattle.tile.specs.Tile.{Tile, tileOf, highestOrder}
 use Rattle.quadtree.specs.Valid.{Valid}
-use Rattle.list_check.specs.ListCheck.{wordsCheck}
+use Rattle.list_check.specs.ListCheck.{soundCheck, wordCheck, wordsCheck}
 use Rattle.list_check.proofs.OneWord.{wordCheck-rest}
 use Rattle.list_check.proofs.Accepts.{wordsCheck-valid}
 use Rattle.mapfile_bytes.specs.Items.{wordAt, wordsAt}
@@ -43,6 +44,19 @@ module _ (n : ℕ) where
   pub tilesCheck-valid : n ≤ highestOrder → (t : ℕ) (bs : List ℕ) → 5 ≤ length bs → tilesCheck n t [] bs 5 ≡ accepted → (5 + 4 * t ≤ length bs) × Valid n (map tileOf (wordsAt t bs 5))
   tilesCheck-valid o t bs h e = let a = passed-words t [] bs 5 h e in (a .0, wordsCheck-valid n o (wordsAt t bs 5) .0 (a .1))
 
+-- no word is refused by a number above 41
+wordCheck-low : (n : ℕ) (seen : List Tile) (w rest : ℕ) → rest ≤ fileCutShort → wordCheck n seen w rest ≤ fileCutShort
+unfolding wordCheck soundCheck
+wordCheck-low n seen w rest l =
+    else-low _ _
+    (must-low _ _ _ (omega arith) (must-low _ _ _ (omega arith) (must-low _ _ _ (omega arith) (must-low _ _ _ (omega arith) (must-low _ _ _ (omega arith) (omega arith))))))
+    (must-low _ _ _ (omega arith) l)
+
+tilesCheck-low : (n t : ℕ) (seen : List Tile) (bs : List ℕ) (p : ℕ) → tilesCheck n t seen bs p ≤ fileCutShort
+unfolding tilesCheck
+tilesCheck-low n zero seen bs p = omega arith
+tilesCheck-low n (suc t) seen bs p = must-low _ _ _ (omega arith) (wordCheck-low n seen (wordAt bs p) _ (tilesCheck-low n t (tileOf (wordAt bs p) ∷ seen) bs (p + 4)))
+
 pub record Accepted (m : ℕ) (bs : List ℕ) : Type 0 where
   pub order : fileOrder bs ≤ highestOrder
   pub count : fileCount bs ≤ m
@@ -66,3 +80,13 @@ pub readOf-accepted : (bs slots : List ℕ) → fileCheck (length slots) bs ≡ 
     readOf bs slots ≡ record { answer = record { number = accepted; order = fileOrder bs; tiles = fileCount bs }; storage = fileWords bs ++ replicate (length slots - fileCount bs) 0 }
 unfolding readOf
 readOf-accepted bs slots e = unless-on _ _ _ e
+
+pub readOf-wrong : (m : ℕ) (bs : List ℕ) → fileCheck m bs ≡ rosterWrong → Valid (fileOrder bs) (map tileOf (fileWords bs)) × (rosterCheck (map tileOf (fileWords bs)) (drop (5 + 4 * fileCount bs) bs) ≡ rosterWrong)
+unfolding fileCheck
+readOf-wrong m bs e =
+    let a = must-other (test-leb 1 (length bs)) (λ q. omega arith) e in
+    let b = must-other (test-leb (fileOrder bs) highestOrder) (λ q. omega arith) (a .1) in
+    let c = must-other (test-leb 5 (length bs)) (λ q. omega arith) (b .1) in
+    let d = must-other (test-leb (fileCount bs) m) (λ q. omega arith) (c .1) in
+    let f = else-other _ _ (λ q. omega (arith, tilesCheck-low (fileOrder bs) (fileCount bs) [] bs 5)) (d .1) in
+    (tilesCheck-valid (fileOrder bs) (b .0) (fileCount bs) bs (c .0) (f .0) .1, f .1)

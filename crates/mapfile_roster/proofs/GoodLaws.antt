@@ -1,5 +1,5 @@
--- What 43 is decided by, without the order in which `rosterGood` goes through entries and tiles.
---     Right ts es   each entry has the pixels of its account; each account with tiles has one entry, and no other has one
+-- The condition of 43, whatever the order of entries and tiles.
+--     Right ts es   each entry has the pixels of its account; an account with tiles has one entry, and no other has one
 --     test-good     `rosterGood` tests it
 --     listed-some   an entry is listed under its account
 use mathlib.Core.Path.{_≡_, refl, ap, sym, _∙_}

@@ -12,7 +12,7 @@ use Rattle.quadtree.specs.Quadtree.{quadtree}
 use Rattle.list_check.specs.ListCheck.{listCheck}
 use Rattle.bed.specs.declared.Kind.the-variants.{Rows}
 use Rattle.bed.specs.Places.{rows, scanOf}
-use Rattle.bed.specs.Worked.{bedM, rowsM}
+use Rattle.bed.specs.Worked.{bedM, rowsM, wordsM}
 use Rattle.part.specs.Part.{partOf, sliceOf}
 use Rattle.scan.specs.declared.Fed.{Fed}
 use Rattle.scan.specs.FreshScan.{freshOf}
@@ -21,9 +21,6 @@ use Rattle.claim.specs.Claim.{claimOf}
 
 abbrev pub tilesM : List Tile
 tilesM = tile 0 1 5 ∷ tile 7 0 9 ∷ tile 8 0 9 ∷ tile 12 1 9 ∷ []
-
-abbrev pub wordsM : List ℕ
-wordsM = 69 ∷ 7177 ∷ 8201 ∷ 12361 ∷ []
 
 -- M in six slots, of which the last two hold anything
 abbrev pub slotsM : List ℕ

@@ -152,7 +152,7 @@ pub fn file_case(random: &mut Random, count: &mut Count) {
     count.read(&bytes[..cut], &mut slots);
 }
 
-/// Roster entries, in any order, have what a raster has: each account with pixels there once, with their number.
+/// Roster entries, in any order, tally with a raster: each account on it has one entry, with the number of its pixels.
 fn tallies(entries: &[u8], raster: &[u8]) {
     let total = |entry: &[u8]| (entry[0], entry[1..].iter().fold(0, |total, &byte| total << 8 | usize::from(byte)));
     let mut listed: Vec<(u8, usize)> = entries.chunks(5).map(total).collect();

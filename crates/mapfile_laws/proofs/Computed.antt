@@ -9,24 +9,30 @@ use Rattle.quadtree.specs.Raster.{aligned, accountAt}
 use Rattle.list_check.specs.ListCheck.{follows, lastOfFour, ended, soundCheck, wordCheck, wordsCheck, listCheck}
 use Rattle.bed.specs.Places.{pixelAt, rows}
 use Rattle.decode.specs.Decode.{decodeCheck, decodeOf}
-use Rattle.mapfile_bytes.specs.Items.{wordAt}
-use Rattle.mapfile_roster.specs.Roster.{covered, rosterFrom}
-use Rattle.mapfile_entries.specs.RosterCheck.{entriesAt}
+use Rattle.mapfile_bytes.specs.Items.{wordAt, wordsAt}
+use Rattle.mapfile_roster.specs.Roster.{covered, rosterFrom, listed, entryGood, entriesGood, tilesListed, rosterGood}
+use Rattle.mapfile_entries.specs.RosterCheck.{entriesAt, rosterCheck}
+use Rattle.mapfile_read.specs.Reader.{tilesCheck, fileCheck, readOf}
 use Rattle.mapfile_sections.specs.Sections.{wordsBytes, entriesBytes}
 use Rattle.mapfile_write.specs.Writer.{fileOf, writeCheck, writeOf}
 use Rattle.mapfile_laws.specs.Totals.{occurs}
-use Rattle.mapfile_laws.specs.Worked.{wordsM, fileM, TotalLines}
+use Rattle.mapfile_laws.specs.Worked.{fileM, TotalLines}
 
 pub total-lines : TotalLines
-unfolding if tabulate must orElse unless morton wordOf tileOf tilesIn aligned accountAt follows lastOfFour ended soundCheck wordCheck wordsCheck listCheck pixelAt rows decodeCheck decodeOf wordAt covered rosterFrom entriesAt wordsBytes entriesBytes fileOf writeCheck writeOf occurs wordsM fileM
+unfolding if tabulate must orElse unless morton wordOf tileOf tilesIn aligned accountAt follows lastOfFour ended soundCheck wordCheck wordsCheck listCheck pixelAt rows decodeCheck decodeOf wordAt wordsAt tilesCheck fileCheck readOf covered rosterFrom listed entryGood entriesGood tilesListed rosterGood entriesAt rosterCheck wordsBytes entriesBytes fileOf writeCheck writeOf occurs fileM
 total-lines = record {
   M-decoded = refl;
   M-written = refl;
+  M-read = refl;
   M-tiles-5 = refl;
   M-rows-5 = refl;
   M-tiles-9 = refl;
   M-rows-9 = refl;
   M-entries = refl;
+  M-tiles-for-pixels = refl;
+  M-one-more = refl;
   M-tiles-0 = refl;
   M-rows-0 = refl;
+  empty-written = refl;
+  whole-bed = refl;
 }
