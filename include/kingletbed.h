@@ -239,8 +239,8 @@ KB_MUST_USE kb_claim_answer kb_claim(uint32_t order, size_t tiles, uint32_t *slo
 
 /* Writes a map as a file: the order in 1 byte; the tile count in 4 and each word in 4; the number of roster entries in
    1 and each entry in 5, an account in 1 byte and the number of its pixels in 4, as many as kb_decode writes for it.
-   High bytes come first. The roster has each account of the tiles once, by rising account. A file of t tiles and a
-   accounts takes 6 + 4t + 5a bytes.
+   High bytes come first. Every account that has tiles gets one entry, by rising account. With t tiles and a such
+   accounts the file is 6 + 4t + 5a bytes long.
      refuses   the list checks, KB_BYTES_TOO_FEW
      answers   the bytes written
      storage   accepted, the first bytes hold the file and those past it are as they were; refused, all are */
@@ -252,8 +252,9 @@ KB_MUST_USE kb_write_answer kb_write(uint32_t order, size_t tiles, const uint32_
 #define KB_FILE_MOST(tiles) (6 + 4 * KB_AT_MOST(tiles, KB_MOST_SLOTS) + 5 * KB_AT_MOST(tiles, KB_HIGHEST_ACCOUNT))
 #define KB_AT_MOST(count, most) ((uint64_t)(count) < (most) ? (size_t)(count) : (size_t)(most))
 
-/* Reads a file to a map; a scan record made of it is by rows with all 4^order pixels scanned. The roster must have each
-   account of the tiles once, with the number of its pixels; its order does not matter.
+/* Reads a file to a map; a scan record made of it is by rows with all 4^order pixels scanned. Every account that has
+   tiles must have one entry in the roster, with the number of its pixels, and no other account may. The order of the
+   entries does not matter.
      refuses   as the file goes: KB_FILE_CUT_SHORT wherever the bytes end before an item; KB_ORDER_TOO_LARGE;
                KB_SLOTS_EXCEEDED for its tile count; KB_HIGH_BITS_SET to KB_SIBLINGS_UNMERGED at each word; after the
                roster KB_TRAILING_BYTES, then KB_ROSTER_WRONG

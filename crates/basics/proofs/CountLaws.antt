@@ -1,6 +1,6 @@
 -- Laws of counts.
---     count-moved   a count stays the same in another order: where each number below n has a place below n, and each place
---                   its number, as many numbers pass a test by place as by number
+--     count-moved   a count stays the same in another order: where each number below n has a place below n, and each
+--                   place its number, as many numbers pass a test by place as by number
 use mathlib.Core.Path.{_≡_, refl, ap, sym, _∙_}
 use mathlib.Core.Bool.{Bool}
 use Prim.Native.Nat.{ℕ, zero, suc, _+_, _<_}

@@ -68,7 +68,7 @@ occurs-rows a n f =
 abbrev entriesOf : ℕ → ℕ
 entriesOf x = if (ltb 0 x) 1 0
 
--- where nobody has no entry, each entry is somebody's
+-- where account 0 has no entry, each entry is somebody's
 somebody : {es : List Entry} → listed 0 es ≡ 0 → (e : Entry) → List·Memᴰ e es → 1 ≤ e .account
 somebody {es} z e m = elim (decLe 1 (e .account)) [
   | yes o ↦ o

@@ -4,7 +4,7 @@
 --     Accepted m bs      the order, the count, the list and the roster of a file that is accepted with m slots
 --     readOf-valid       a file that the reader accepts has them
 --     readOf-accepted    what the reader then answers and leaves
---     readOf-wrong       a file that the reader refuses by 43 has a valid list, and it is the roster section that is refused
+--     readOf-wrong       a file that the reader refuses by 43 has a valid list, and its roster section is refused
 use mathlib.Core.Path.{_≡_, refl, sym, _∙_}
 use mathlib.Core.List.{List, [], _∷_, _++_, map}
 use Prim.Native.Nat.{ℕ, zero, suc, _+_, _-_, _*_, _≤_}

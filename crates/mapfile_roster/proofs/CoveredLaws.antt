@@ -4,7 +4,7 @@
 --     covered-fits      nor than the largest bed has
 --     covered-some      the account of a tile covers some
 --     covered-none      an account without tiles covers none
---     covered-nobody    so nobody does, in a valid list
+--     covered-nobody    so account 0 covers none, in a valid list
 use mathlib.Core.Path.{_≡_, refl, ap, sym, _∙_}
 use mathlib.Core.Bool.{Bool, true, false}
 use mathlib.Core.List.{List, [], _∷_, List·Memᴰ·head, List·Memᴰ·tail}
