@@ -36,7 +36,7 @@ use Rattle.scan_check.specs.Opening.{opening}
 use Rattle.scan.specs.Feed.{fedTo, feedOf}
 use Rattle.claim.specs.Claim.{claimRefusal, claimOf}
 use Rattle.mapfile_read.specs.Reader.{fileCheck, fileOrder, fileCount, fileWords, readOf, readBed}
-use Rattle.mapfile_read.proofs.ReaderLaws.{Accepted, readOf-valid}
+use Rattle.mapfile_read.proofs.ReaderLaws.{Passed, readOf-valid}
 use Rattle.demands.specs.Calls.{Call, fresh, feed, claim, read, answer, State, Step, PlainStep, step, plainStep, plainFed, afterFresh, afterFeed, afterClaim, afterRead, Begins}
 use Rattle.demands.specs.Demands.{listIn}
 use Rattle.demands.proofs.Kept.{keptBy, Kept, kept-list, kept-length, kept-check, kept-shown}
@@ -139,7 +139,7 @@ module _ (m : ℕ) (s : State) (slots : length (s .slots) ≡ m) (b : Bed) (byte
   read-list : Valid (fileOrder bytes) tiles → quadtree (fileOrder bytes) (accountAt tiles) ≡ tiles
   read-list v = sym (valid-quadtree v)
 
-  read-kept : Accepted m bytes → Kept m (record { scan = scanOf Rows (fileOrder bytes) (4 ^ fileOrder bytes) (fileCount bytes); slots = fileWords bytes ++ replicate (m - fileCount bytes) 0 }) (readBed bytes)
+  read-kept : Passed m bytes accepted → Kept m (record { scan = scanOf Rows (fileOrder bytes) (4 ^ fileOrder bytes) (fileCount bytes); slots = fileWords bytes ++ replicate (m - fileCount bytes) 0 }) (readBed bytes)
   unfolding tiles filled
   read-kept r = record {
     is = rw (read-list (r .valid), words-tiles (fileWords bytes), length-map (fileWords bytes) tileOf, r .length-words);

@@ -18,8 +18,8 @@ use Rattle.basics.specs.Choice.{if, count, tabulate}
 use Rattle.basics.proofs.Tests.{test-leb, told-true, test-true}
 use Rattle.basics.proofs.ChoiceLaws.{if-no}
 use Rattle.basics.proofs.CountLaws.{count-moved}
-use Rattle.refusal.specs.Refusal.{accepted, rosterWrong}
-use Rattle.refusal.specs.Checks.{After}
+use Rattle.refusal.specs.Refusal.{accepted, fileCutShort, trailingBytes, rosterWrong}
+use Rattle.refusal.specs.Checks.{must, After}
 use Rattle.refusal.proofs.CheckLaws.{must-on, must-inv, must-other, else-inv}
 use Rattle.tile.specs.Tile.{Tile, tileOf}
 use Rattle.tile.specs.Slots.{tilesIn}
@@ -41,7 +41,7 @@ use Rattle.mapfile_roster.proofs.GoodLaws.{Right, test-good, listed-some}
 use Rattle.mapfile_roster.proofs.RosterLaws.{rosterOf-good}
 use Rattle.mapfile_entries.specs.RosterCheck.{entriesAt, rosterCheck}
 use Rattle.mapfile_read.specs.Reader.{fileOrder, fileCount, fileWords, fileCheck}
-use Rattle.mapfile_read.proofs.ReaderLaws.{Accepted, readOf-valid, readOf-accepted, readOf-wrong}
+use Rattle.mapfile_read.proofs.ReaderLaws.{Passed, readOf-valid, readOf-accepted, readOf-wrong}
 use Rattle.mapfile_write.specs.Writer.{fileOf, writeCheck, writeOf}
 use Rattle.mapfile_write.proofs.WriterLaws.{writeOf-accepted}
 use Rattle.mapfile_laws.specs.Totals.{occurs, fileEntries, Tallies, Totals}
@@ -125,30 +125,30 @@ written-tallies n t slots file raster e l =
     rw (decoded-rows n t slots raster (a .0) l, writeOf-accepted n t slots file (a .0) (b .0), take-at (fileOf n ts) (drop (length (fileOf n ts)) file) (length (fileOf n ts)) refl, fileOf-entries n ts (v .0) (v .2) (slots-accounts t slots))
     (good-tallies (v .2) .0 (rosterOf-good (v .2) (slots-accounts t slots)))
 
--- the roster of an accepted file is right by its tiles
-roster-right : (ts : List Tile) (section : List ℕ) → rosterCheck ts section ≡ accepted → Right ts (entriesAt (getD section 0 0) section 1)
-unfolding rosterCheck
-roster-right ts section e =
-    let a = must-inv (test-leb 1 (length section)) (omega arith) e in
-    let b = must-inv (test-leb (1 + 5 * getD section 0 0) (length section)) (omega arith) (a .1) in
-    let c = must-inv (test-leb (length section) (1 + 5 * getD section 0 0)) (omega arith) (b .1) in
-    must-inv (test-good ts (entriesAt (getD section 0 0) section 1)) (omega arith) (c .1) .0
+-- a roster section that is neither cut short nor too long is judged by its entries
+module _ (ts : List Tile) (section : List ℕ) where
+  abbrev entries : List Entry
+  entries = entriesAt (getD section 0 0) section 1
 
--- a roster that is refused is not right
-roster-wrong : (ts : List Tile) (section : List ℕ) → rosterCheck ts section ≡ rosterWrong → Right ts (entriesAt (getD section 0 0) section 1) → ⊥
-unfolding rosterCheck
-roster-wrong ts section e r =
-    let a = must-other (test-leb 1 (length section)) (λ q. omega arith) e in
-    let b = must-other (test-leb (1 + 5 * getD section 0 0) (length section)) (λ q. omega arith) (a .1) in
-    let c = must-other (test-leb (length section) (1 + 5 * getD section 0 0)) (λ q. omega arith) (b .1) in
-    omega (arith, c .1, must-on rosterWrong accepted (test-good ts (entriesAt (getD section 0 0) section 1)) r)
+  judged : {x : ℕ} → (fileCutShort ≡ x → ⊥) → (trailingBytes ≡ x → ⊥) → rosterCheck ts section ≡ x → must (rosterGood ts entries) rosterWrong accepted ≡ x
+  unfolding rosterCheck
+  judged short long e =
+      let a = must-other (test-leb 1 (length section)) short e in
+      let b = must-other (test-leb (1 + 5 * getD section 0 0) (length section)) short (a .1) in
+      must-other (test-leb (length section) (1 + 5 * getD section 0 0)) long (b .1) .1
+
+  roster-right : rosterCheck ts section ≡ accepted → Right ts entries
+  roster-right e = must-inv (test-good ts entries) (omega arith) (judged (λ q. omega arith) (λ q. omega arith) e) .0
+
+  roster-wrong : rosterCheck ts section ≡ rosterWrong → Right ts entries → ⊥
+  roster-wrong e r = omega (arith, judged (λ q. omega arith) (λ q. omega arith) e, must-on rosterWrong accepted (test-good ts entries) r)
 
 refused-tallies : (m : ℕ) (file : List ℕ) → fileCheck m file ≡ rosterWrong → Tallies (rows (fileOrder file) (accountAt (map tileOf (fileWords file)))) (fileEntries file) → ⊥
-refused-tallies m file e t = let w = readOf-wrong m file e in roster-wrong _ _ (w .1) (tallies-right (w .0) t)
+refused-tallies m file e t = let w = readOf-wrong m file e in roster-wrong _ _ (w .roster) (tallies-right (w .valid) t)
 
 -- what a reading leaves passes the list checks, and is decoded
 module _ (file slots : List ℕ) (e : fileCheck (length slots) file ≡ accepted) where
-  reading : Accepted (length slots) file
+  reading : Passed (length slots) file accepted
   reading = readOf-valid (length slots) file e
 
   abbrev left : List ℕ

@@ -1,17 +1,17 @@
--- What an accepted file has.
+-- What an accepted file has, and one whose roster is wrong.
 --     tilesCheck-words   words that are there are accepted just where the same words in slots are
 --     tilesCheck-valid   words that are accepted are there, and are a valid list
---     Accepted m bs      the order, the count, the list and the roster of a file that is accepted with m slots
---     readOf-valid       a file that the reader accepts has them
+--     Passed m bs x      a file of which all but the roster passes with m slots, and the roster section gives x
+--     readOf-valid       a file that the reader accepts is so ..
+--     readOf-wrong       .. and so is one that it refuses by 43
 --     readOf-accepted    what the reader then answers and leaves
---     readOf-wrong       a file that the reader refuses by 43 has a valid list, and its roster section is refused
 use mathlib.Core.Path.{_≡_, refl, sym, _∙_}
 use mathlib.Core.List.{List, [], _∷_, _++_, map}
-use Prim.Native.Nat.{ℕ, zero, suc, _+_, _-_, _*_, _≤_}
+use Prim.Native.Nat.{ℕ, zero, suc, _+_, _-_, _*_, _≤_, _<_}
 use native.Mathlib.Omega.{arith}
 use lib.ListN.{length, drop, replicate}
 use Rattle.basics.proofs.Tests.{test-leb}
-use Rattle.refusal.specs.Refusal.{accepted, fileCutShort, rosterWrong}
+use Rattle.refusal.specs.Refusal.{accepted, orderTooLarge, slotsExceeded, fileCutShort, rosterWrong}
 use Rattle.refusal.proofs.CheckLaws.{must-on, must-inv, must-other, must-low, else-on, else-inv, else-other, else-low, unless-on}
 use Rattle.tile.specs.Tile.{Tile, tileOf, highestOrder}
 use Rattle.quadtree.specs.Valid.{Valid}
@@ -57,36 +57,32 @@ unfolding tilesCheck
 tilesCheck-low n zero seen bs p = omega arith
 tilesCheck-low n (suc t) seen bs p = must-low _ _ _ (omega arith) (wordCheck-low n seen (wordAt bs p) _ (tilesCheck-low n t (tileOf (wordAt bs p) ∷ seen) bs (p + 4)))
 
-pub record Accepted (m : ℕ) (bs : List ℕ) : Type 0 where
+pub record Passed (m : ℕ) (bs : List ℕ) (x : ℕ) : Type 0 where
   pub order : fileOrder bs ≤ highestOrder
   pub count : fileCount bs ≤ m
   pub length-words : length (fileWords bs) ≡ fileCount bs
   pub valid : Valid (fileOrder bs) (map tileOf (fileWords bs))
   pub room : 5 + 4 * fileCount bs ≤ length bs
-  pub roster : rosterCheck (map tileOf (fileWords bs)) (drop (5 + 4 * fileCount bs) bs) ≡ accepted
+  pub roster : rosterCheck (map tileOf (fileWords bs)) (drop (5 + 4 * fileCount bs) bs) ≡ x
 
-pub readOf-valid : (m : ℕ) (bs : List ℕ) → fileCheck m bs ≡ accepted → Accepted m bs
+passed : (m : ℕ) (bs : List ℕ) {x : ℕ} → ((y : ℕ) → 0 < y → y ≤ fileCutShort → y ≡ x → ⊥) → fileCheck m bs ≡ x → Passed m bs x
 unfolding fileCheck
-readOf-valid m bs e =
-    let a = must-inv (test-leb 1 (length bs)) (omega arith) e in
-    let b = must-inv (test-leb (fileOrder bs) highestOrder) (omega arith) (a .1) in
-    let c = must-inv (test-leb 5 (length bs)) (omega arith) (b .1) in
-    let d = must-inv (test-leb (fileCount bs) m) (omega arith) (c .1) in
-    let f = else-inv _ _ (d .1) in
+passed m bs h e =
+    let a = must-other (test-leb 1 (length bs)) (h fileCutShort (omega arith) (omega arith)) e in
+    let b = must-other (test-leb (fileOrder bs) highestOrder) (h orderTooLarge (omega arith) (omega arith)) (a .1) in
+    let c = must-other (test-leb 5 (length bs)) (h fileCutShort (omega arith) (omega arith)) (b .1) in
+    let d = must-other (test-leb (fileCount bs) m) (h slotsExceeded (omega arith) (omega arith)) (c .1) in
+    let f = else-other _ _ (λ g q. h _ g (tilesCheck-low (fileOrder bs) (fileCount bs) [] bs 5) q) (d .1) in
     let w = tilesCheck-valid (fileOrder bs) (b .0) (fileCount bs) bs (c .0) (f .0) in
     record { order = b .0; count = d .0; length-words = wordsAt-length (fileCount bs) bs 5; valid = w .1; room = w .0; roster = f .1 }
+
+pub readOf-valid : (m : ℕ) (bs : List ℕ) → fileCheck m bs ≡ accepted → Passed m bs accepted
+readOf-valid m bs = passed m bs (λ y g l q. omega arith)
+
+pub readOf-wrong : (m : ℕ) (bs : List ℕ) → fileCheck m bs ≡ rosterWrong → Passed m bs rosterWrong
+readOf-wrong m bs = passed m bs (λ y g l q. omega arith)
 
 pub readOf-accepted : (bs slots : List ℕ) → fileCheck (length slots) bs ≡ accepted →
     readOf bs slots ≡ record { answer = record { number = accepted; order = fileOrder bs; tiles = fileCount bs }; storage = fileWords bs ++ replicate (length slots - fileCount bs) 0 }
 unfolding readOf
 readOf-accepted bs slots e = unless-on _ _ _ e
-
-pub readOf-wrong : (m : ℕ) (bs : List ℕ) → fileCheck m bs ≡ rosterWrong → Valid (fileOrder bs) (map tileOf (fileWords bs)) × (rosterCheck (map tileOf (fileWords bs)) (drop (5 + 4 * fileCount bs) bs) ≡ rosterWrong)
-unfolding fileCheck
-readOf-wrong m bs e =
-    let a = must-other (test-leb 1 (length bs)) (λ q. omega arith) e in
-    let b = must-other (test-leb (fileOrder bs) highestOrder) (λ q. omega arith) (a .1) in
-    let c = must-other (test-leb 5 (length bs)) (λ q. omega arith) (b .1) in
-    let d = must-other (test-leb (fileCount bs) m) (λ q. omega arith) (c .1) in
-    let f = else-other _ _ (λ q. omega (arith, tilesCheck-low (fileOrder bs) (fileCount bs) [] bs 5)) (d .1) in
-    (tilesCheck-valid (fileOrder bs) (b .0) (fileCount bs) bs (c .0) (f .0) .1, f .1)
