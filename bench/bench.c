@@ -147,7 +147,10 @@ static void calls(struct bench *b)
     BOTH(ours, must(kb_rights(order, tiles, slots, m, at, at, 9).number),
          straight, must(straight_rights(order, tiles, slots, m, at, at, 9).number));
     cell(&ours, &straight, tiles);
-    /* A block of 16 pixels is claimed and released in turn. */
+    /* A block of 16 pixels is previewed, and then claimed and released in turn. */
+    BOTH(ours, must(kb_preview(order, tiles, slots, m, corner, 2, 9).number),
+         straight, must(straight_preview(order, tiles, slots, m, corner, 2, 9).number));
+    cell(&ours, &straight, tiles);
     size_t left = tiles;
     BOTH(ours, left = kb_claim(order, left, slots, m, corner, 2, 9).tiles;
          left = kb_claim(order, left, slots, m, corner, 2, 0).tiles,
@@ -228,8 +231,8 @@ static const struct table {
      "\nOther calls: nanoseconds for each tile (decode: pixel; fresh: slot) × the library's time divided by that of "
      "straightforward C.\nEvery call but read and fresh checks the whole list first. For the roster, straightforward C "
      "keeps an array of totals; the library counts each account from the list.\n\n"
-     "| order | bed | tiles | check | lookup | part | rights | claim | write | read | decode | fresh |\n"
-     "|---|---|---|---|---|---|---|---|---|---|---|---|\n",
+     "| order | bed | tiles | check | lookup | part | rights | preview | claim | write | read | decode | fresh |\n"
+     "|---|---|---|---|---|---|---|---|---|---|---|---|---|\n",
      calls},
     {"combine",
      "\nCombine: the bed inside and outside of reserved zones, 8 large rectangles. Nanoseconds for each tile of both "

@@ -1,4 +1,4 @@
-/* The calls that read a map, and the claim. */
+/* The calls that read a map, and the claim with its preview. */
 #include "straight.h"
 
 #include <string.h>
@@ -170,11 +170,44 @@ static int siblings(size_t tiles, const uint32_t *slots, size_t low, size_t high
     return 1;
 }
 
-kb_claim_answer straight_claim(uint32_t order, size_t tiles, uint32_t *slots, size_t slots_length,
-                               uint32_t corner, uint32_t size, uint8_t account)
-{
+/* What a claim changes: the tiles from low up to high give way to `count` pieces. */
+struct plan {
     uint32_t pieces[3 * KB_HIGHEST_ORDER + 1];
-    size_t count = 0;
+    size_t count, low, high;
+};
+
+static void find_change(uint32_t order, size_t tiles, const uint32_t *slots, uint32_t corner, uint32_t size,
+                        uint8_t account, struct plan *plan)
+{
+    size_t low = find(tiles, slots, corner), high;
+    plan->count = 0;
+    if (low < tiles && corner_of(slots[low]) <= corner && size_of(slots[low]) > size) {
+        high = low + 1;
+        if (account_of(slots[low]) == account)
+            plan->pieces[plan->count++] = slots[low];
+        else
+            plan->count = split(slots[low], corner, size, account, plan->pieces);
+    } else {
+        high = find(tiles, slots, corner + area(size));
+        if (account) {
+            uint32_t block = word_of(corner, size, account);
+            while (size_of(block) < order && siblings(tiles, slots, low, high, block)) {
+                uint32_t k = size_of(block), place = corner_of(block) >> 2 * k & 3;
+                low -= place;
+                high += 3 - place;
+                block = word_of(corner_of(block) - place * area(k), k + 1, account);
+            }
+            plan->pieces[plan->count++] = block;
+        }
+    }
+    plan->low = low;
+    plan->high = high;
+}
+
+/* The checks of a claim and its plan: what the claim answers, with nothing stored. */
+static kb_claim_answer plan_claim(uint32_t order, size_t tiles, const uint32_t *slots, size_t slots_length,
+                                  uint32_t corner, uint32_t size, uint8_t account, struct plan *plan)
+{
     kb_claim_answer answer = {straight_check(order, tiles, slots, slots_length), 0};
     if (answer.number)
         return answer;
@@ -186,33 +219,33 @@ kb_claim_answer straight_claim(uint32_t order, size_t tiles, uint32_t *slots, si
         answer.number = KB_ACCOUNT_TOO_LARGE;
         return answer;
     }
-    size_t low = find(tiles, slots, corner), high;
-    if (low < tiles && corner_of(slots[low]) <= corner && size_of(slots[low]) > size) {
-        high = low + 1;
-        if (account_of(slots[low]) == account)
-            pieces[count++] = slots[low];
-        else
-            count = split(slots[low], corner, size, account, pieces);
-    } else {
-        high = find(tiles, slots, corner + area(size));
-        if (account) {
-            uint32_t block = word_of(corner, size, account);
-            while (size_of(block) < order && siblings(tiles, slots, low, high, block)) {
-                uint32_t k = size_of(block), place = corner_of(block) >> 2 * k & 3;
-                low -= place;
-                high += 3 - place;
-                block = word_of(corner_of(block) - place * area(k), k + 1, account);
-            }
-            pieces[count++] = block;
-        }
-    }
-    if (tiles - (high - low) + count > slots_length) {
+    find_change(order, tiles, slots, corner, size, account, plan);
+    size_t after = tiles - (plan->high - plan->low) + plan->count;
+    if (after > slots_length)
         answer.number = KB_SLOTS_EXCEEDED;
+    else
+        answer.tiles = after;
+    return answer;
+}
+
+kb_preview_answer straight_preview(uint32_t order, size_t tiles, const uint32_t *slots, size_t slots_length,
+                                   uint32_t corner, uint32_t size, uint8_t account)
+{
+    struct plan plan;
+    kb_claim_answer planned = plan_claim(order, tiles, slots, slots_length, corner, size, account, &plan);
+    kb_preview_answer answer = {planned.number, planned.tiles};
+    return answer;
+}
+
+kb_claim_answer straight_claim(uint32_t order, size_t tiles, uint32_t *slots, size_t slots_length,
+                               uint32_t corner, uint32_t size, uint8_t account)
+{
+    struct plan plan;
+    kb_claim_answer answer = plan_claim(order, tiles, slots, slots_length, corner, size, account, &plan);
+    if (answer.number)
         return answer;
-    }
-    answer.tiles = tiles - (high - low) + count;
-    memmove(slots + low + count, slots + high, (tiles - high) * sizeof *slots);
-    memcpy(slots + low, pieces, count * sizeof *slots);
+    memmove(slots + plan.low + plan.count, slots + plan.high, (tiles - plan.high) * sizeof *slots);
+    memcpy(slots + plan.low, plan.pieces, plan.count * sizeof *slots);
     if (slots_length > answer.tiles)
         memset(slots + answer.tiles, 0, (slots_length - answer.tiles) * sizeof *slots);
     return answer;

@@ -16,6 +16,8 @@ kb_part_answer straight_part(uint32_t order, size_t tiles, const uint32_t *slots
                              uint32_t corner, uint32_t size);
 kb_rights_answer straight_rights(uint32_t order, size_t tiles, const uint32_t *slots, size_t slots_length,
                                  uint32_t column, uint32_t row, uint8_t account);
+kb_preview_answer straight_preview(uint32_t order, size_t tiles, const uint32_t *slots, size_t slots_length,
+                                   uint32_t corner, uint32_t size, uint8_t account);
 kb_claim_answer straight_claim(uint32_t order, size_t tiles, uint32_t *slots, size_t slots_length,
                                uint32_t corner, uint32_t size, uint8_t account);
 kb_write_answer straight_write(uint32_t order, size_t tiles, const uint32_t *slots, size_t slots_length,

@@ -63,7 +63,7 @@ static void feed_rows(kb_scan *scan, const uint8_t *raster)
     printf("Scanned %u pixels row by row: %zu tiles, at most %zu after a row.\n", scan->pixels, scan->tiles, most);
 }
 
-/* Claims the block if it is free: that no tile is inside would not be enough. */
+/* Claims the block if it is free: that no tile is inside would not be enough. What it costs is told ahead. */
 static void claim(kb_scan *scan)
 {
     kb_block_answer block = kb_block(ORDER, CLAIM_COLUMN, CLAIM_ROW, CLAIM_SIZE);
@@ -74,9 +74,12 @@ static void claim(kb_scan *scan)
            shown.account == 0 ? "nobody's" : "held");
     if (shown.account != 0)
         exit(1);
-    size_t before = scan->tiles;
+    kb_preview_answer preview = kb_scan_preview(scan, block.corner, block.size, CLAIM_ACCOUNT);
+    must(preview.number, "the preview");
+    printf("A claim for account %d would leave %zu tiles; now there are %zu.\n", CLAIM_ACCOUNT, preview.tiles,
+           scan->tiles);
     must(kb_scan_claim(scan, block.corner, block.size, CLAIM_ACCOUNT), "the claim");
-    printf("Account %d claims it: %zu tiles before, %zu after.\n", CLAIM_ACCOUNT, before, scan->tiles);
+    printf("Account %d claims it: %zu tiles.\n", CLAIM_ACCOUNT, scan->tiles);
 }
 
 /* The panel: 16 by 16 cells, each a block of 4 by 4 pixels. A cell under a larger tile has no tile inside and is held

@@ -46,7 +46,7 @@
 #include <stddef.h>
 #include <stdint.h>
 
-#define KB_VERSION "0.4.0"
+#define KB_VERSION "0.5.0"
 
 /* An answer that is dropped is a mistake, of which the compiler warns. */
 #if (defined(__cplusplus) && __cplusplus >= 201703L) || (defined(__STDC_VERSION__) && __STDC_VERSION__ >= 202311L)
@@ -137,6 +137,7 @@ typedef struct { uint32_t number; size_t position; size_t length; } kb_part_answ
 typedef struct { uint32_t number; const uint32_t *tiles; size_t length; } kb_part_tiles_answer;
 typedef struct { uint32_t number; uint8_t yes; } kb_rights_answer;
 typedef struct { uint32_t number; size_t tiles; } kb_claim_answer;
+typedef struct { uint32_t number; size_t tiles; } kb_preview_answer;
 typedef struct { uint32_t number; size_t length; } kb_write_answer;
 typedef struct { uint32_t number; uint32_t order; size_t tiles; } kb_read_answer;
 typedef struct { uint32_t number; size_t tiles; } kb_combine_answer;
@@ -151,7 +152,7 @@ KB_MUST_USE kb_extent_answer kb_extent(uint32_t order);
      refuses   KB_ORDER_TOO_LARGE, KB_POINT_OUTSIDE */
 KB_MUST_USE kb_morton_answer kb_morton(uint32_t order, uint32_t column, uint32_t row);
 
-/* The block of a size that has a pixel in it, as kb_part and kb_claim are handed one.
+/* The block of a size that has a pixel in it, as kb_part, kb_claim and kb_preview are handed one.
      refuses   KB_ORDER_TOO_LARGE, KB_POINT_OUTSIDE, KB_BLOCK_INVALID for a size above the order; corner and size are
                then 0 and 0, which is a block too: do not go on with them */
 KB_MUST_USE kb_block_answer kb_block(uint32_t order, uint32_t column, uint32_t row, uint32_t size);
@@ -236,6 +237,16 @@ KB_MUST_USE kb_rights_answer kb_rights(uint32_t order, size_t tiles, const uint3
                were */
 KB_MUST_USE kb_claim_answer kb_claim(uint32_t order, size_t tiles, uint32_t *slots, size_t slots_length,
                                      uint32_t corner, uint32_t size, uint8_t account);
+
+/* Tells what a claim would come to, before it is made: what kb_claim answers to the same arguments, done on a copy of
+   the list with as many slots. What the slots behind the list hold does not matter. The answer holds as long as the map
+   is as it was.
+     refuses   what kb_claim refuses, in the same order
+     answers   the tile count after the claim; accepted, there are slots enough for it. It goes with no slots yet: do not
+               hand it over as the count of these
+     storage   nothing is written */
+KB_MUST_USE kb_preview_answer kb_preview(uint32_t order, size_t tiles, const uint32_t *slots, size_t slots_length,
+                                         uint32_t corner, uint32_t size, uint8_t account);
 
 /* Writes a map as a file: the order in 1 byte; the tile count in 4 and each word in 4; the number of roster entries in
    1 and each entry in 5, an account in 1 byte and the number of its pixels in 4, as many as kb_decode writes for it.
@@ -366,6 +377,14 @@ KB_MUST_USE static inline uint32_t kb_scan_claim(kb_scan *scan, uint64_t corner,
     if (claimed.number == KB_ACCEPTED)
         scan->tiles = claimed.tiles;
     return claimed.number;
+}
+
+/* What kb_scan_claim would come to: its number, and the tile count that the scan would have. The scan stays as it is. */
+KB_MUST_USE static inline kb_preview_answer kb_scan_preview(const kb_scan *scan, uint64_t corner, uint64_t size,
+                                                            uint64_t account)
+{
+    return kb_preview(scan->order, scan->tiles, scan->slots, scan->slots_length,
+                      kb_number_word(corner), kb_number_word(size), kb_account_byte(account));
 }
 
 KB_MUST_USE static inline uint32_t kb_scan_check(const kb_scan *scan)

@@ -38,6 +38,7 @@ pub fn shift(text: &mut String) -> Result<(), Box<dyn Error>> {
     let (student, at) = (Account(12), Pixel { column: 5, row: 2 });
     let ground = Block::around(bed.order(), at, 1)?;
     writeln!(text, "the ground of {student} is free: {}", bed.shown(ground)?.len() == 0)?;
+    writeln!(text, "its claim would leave {} tiles", bed.preview(ground, student)?)?;
     bed.claim(ground, student)?;
 
     // The bed that was claimed on is the bed that is asked: there is no older one that could still say nobody.

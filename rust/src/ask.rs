@@ -155,6 +155,27 @@ impl<S: AsRef<[u32]>> Bed<S> {
         Ok(answer.yes != 0)
     }
 
+    /// What a claim would come to, with nothing changed: the tile count after it, or its refusal. It is what
+    /// [`claim`](Bed::claim) answers on a copy of the bed with as many slots; of a [`release`](Bed::release) it is the
+    /// preview of a claim for [`Account::NOBODY`]. [`tiles`](Bed::tiles) has the count before.
+    ///
+    /// ```
+    /// use kingletbed::{Account, Bed, Block, Refusal};
+    /// let mut bed = Bed::from_slots(2, 4, [69, 7177, 8201, 12361, 0, 0])?;
+    /// let pixel = Block { corner: 3, size: 0 };
+    /// assert_eq!(bed.preview(pixel, Account(9)), Err(Refusal::SlotsExceeded)); // it would have 7 tiles
+    /// assert_eq!(bed.preview(pixel, Account::NOBODY), Ok(6));
+    /// assert_eq!(bed.tiles().len(), 4);
+    /// bed.release(pixel)?;
+    /// assert_eq!(bed.tiles().len(), 6);
+    /// # Ok::<(), kingletbed::Refusal>(())
+    /// ```
+    pub fn preview(&self, block: Block, account: Account) -> Result<usize, Refusal> {
+        let answer = raw::preview(self.order, self.tiles, self.slots(), block.corner, block.size, account.0);
+        Refusal::outcome(answer.number)?;
+        Ok(answer.tiles)
+    }
+
     /// The part of the list whose tiles lie wholly inside a block: of the slots themselves, not a copy.
     ///
     /// To draw a block take [`shown`](Bed::shown): the part of a block that lies under a larger tile is empty, though

@@ -36,6 +36,8 @@ extern "C" {
                  column: u32, row: u32, account: u8) -> Right;
     fn kb_claim(order: u32, tiles: usize, slots: *mut u32, slots_length: usize,
                 corner: u32, size: u32, account: u8) -> Claimed;
+    fn kb_preview(order: u32, tiles: usize, slots: *const u32, slots_length: usize,
+                  corner: u32, size: u32, account: u8) -> Claimed;
     fn kb_combine(choice: u32, order1: u32, tiles1: usize, slots1: *const u32, slots1_length: usize,
                   order2: u32, tiles2: usize, slots2: *const u32, slots2_length: usize,
                   out: *mut u32, out_length: usize) -> Combined;
@@ -150,6 +152,21 @@ pub fn rights(order: u32, tiles: usize, slots: &[u32], column: u32, row: u32, ac
 #[must_use]
 pub fn claim(order: u32, tiles: usize, slots: &mut [u32], corner: u32, size: u32, account: u8) -> Claimed {
     unsafe { kb_claim(order, tiles, slots.as_mut_ptr(), slots.len(), corner, size, account) }
+}
+
+/// `kb_preview`. What [`claim`] would answer, done on a copy of the list with as many slots.
+///
+/// ```
+/// use kingletbed::raw;
+/// let mut slots = [71, 0, 0];
+/// let preview = raw::preview(1, 1, &slots, 3, 0, 0);
+/// assert_eq!((preview.number, preview.tiles, slots), (0, 3, [71, 0, 0]));
+/// assert_eq!(raw::claim(1, 1, &mut slots, 3, 0, 0), preview);
+/// assert_eq!(raw::preview(1, 1, &[71, 0], 3, 0, 0).number, 25); // two slots are too few for three tiles
+/// ```
+#[must_use]
+pub fn preview(order: u32, tiles: usize, slots: &[u32], corner: u32, size: u32, account: u8) -> Claimed {
+    unsafe { kb_preview(order, tiles, slots.as_ptr(), slots.len(), corner, size, account) }
 }
 
 /// `kb_combine`. Makes a third map of two: by choice 0 the first map's pixels where the second is somebody's, by any

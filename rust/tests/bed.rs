@@ -34,6 +34,7 @@ fn no_stale_bed() -> Result<(), Refusal> {
 fn refused_calls_leave_a_bed() -> Result<(), Refusal> {
     let mut bed = Bed::from_slots(2, 4, M_WORDS)?;
     let before = bed.clone();
+    assert_eq!(bed.preview(Block { corner: 3, size: 0 }, Account::NOBODY), Err(Refusal::SlotsExceeded));
     assert_eq!(bed.release(Block { corner: 3, size: 0 }), Err(Refusal::SlotsExceeded));
     assert_eq!(bed.claim(Block { corner: 3, size: 1 }, Account(5)), Err(Refusal::BlockInvalid));
     assert_eq!(bed.claim(Block::whole(2), Account(64)), Err(Refusal::AccountTooLarge));
@@ -203,6 +204,7 @@ fn ask(bed: &mut Bed<Turning>, seed: usize, counts: &mut [usize; 2]) {
     answered(bed.shown(block).map(|shown| shown.map(|tile| (tile.pixel(), tile.side())).collect::<Vec<_>>()), counts);
     answered(bed.decode(&mut [0; 16]), counts);
     answered(bed.write(&mut vec![0; bed.file_room()]), counts);
+    answered(bed.preview(block, Account(7)), counts);
     answered(bed.feed(&[9, 9]), counts);
     answered(bed.claim(block, Account(7)), counts);
     answered(bed.release(block), counts);

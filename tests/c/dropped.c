@@ -23,6 +23,7 @@ void drop(kb_scan *scan, uint32_t *slots, uint32_t *out, uint8_t *bytes)
     kb_part_tiles(0, 0, slots, 1, 0, 0);
     kb_rights(0, 0, slots, 1, 0, 0, 1);
     kb_claim(0, 0, slots, 1, 0, 0, 1);
+    kb_preview(0, 0, slots, 1, 0, 0, 1);
     kb_write(0, 0, slots, 1, bytes, 1);
     kb_read(bytes, 1, slots, 1);
     kb_combine(KB_INSIDE, 0, 0, slots, 1, 0, 0, slots, 1, out, 1);
@@ -31,6 +32,7 @@ void drop(kb_scan *scan, uint32_t *slots, uint32_t *out, uint8_t *bytes)
     kb_scan_combine(scan, KB_INSIDE, scan, scan, out, 1);
     kb_scan_feed(scan, bytes, 1);
     kb_scan_claim(scan, 0, 0, 1);
+    kb_scan_preview(scan, 0, 0, 1);
     kb_scan_check(scan);
     kb_scan_decode(scan, bytes, 1);
     kb_scan_lookup(scan, 0, 0);

@@ -20,6 +20,7 @@ int main(void)
     test_fresh();
     test_feed();
     test_claim();
+    test_preview();
     test_accounts();
     test_wide();
     test_file();

@@ -26,6 +26,7 @@ void test_empty(void)
     CHECK(kb_scan_lookup(&scan, 0, 0).number == KB_ACCEPTED && kb_scan_lookup(&scan, 0, 0).account == 0);
     CHECK(kb_scan_shown(&scan, 0, 0).number == KB_ACCEPTED && kb_scan_shown(&scan, 0, 0).account == 0);
     CHECK(kb_scan_write(&scan, file, 6).length == 6);
+    CHECK(kb_scan_preview(&scan, 0, 0, 7).number == KB_SLOTS_EXCEEDED);
     CHECK(kb_scan_claim(&scan, 0, 0, 7) == KB_SLOTS_EXCEEDED && scan.tiles == 0);
     CHECK(kb_scan_feed(&scan, NULL, 0).number == KB_ACCEPTED);
     CHECK(kb_scan_feed(&scan, &account, 1).taken == 1 && scan.pixels == 1);
@@ -86,6 +87,39 @@ void test_claim(void)
     CHECK(kb_scan_claim(&scan, 0, 2, 0) == KB_ACCEPTED && scan.tiles == 0 && scan.pixels == 16);
 }
 
+/* Does a preview answer this number and count? */
+static int previews(const kb_scan *scan, uint32_t corner, uint32_t size, uint32_t account, uint32_t number,
+                    size_t tiles)
+{
+    kb_preview_answer preview = kb_scan_preview(scan, corner, size, account);
+    return preview.number == number && preview.tiles == tiles;
+}
+
+/* Each refusal and each way that a claim can go, with the slots as they were; and a copy of the list, of which the
+   slots behind it are others. */
+void test_preview(void)
+{
+    uint32_t slots[6], kept[6], copy[7] = {69, 7177, 8201, 12361, UINT32_MAX, UINT32_MAX, UINT32_MAX};
+    kb_scan scan = NO_SCAN;
+    scan_bed_m(&scan, slots, 6);
+    kb_scan before = scan;
+    memcpy(kept, slots, sizeof slots);
+    CHECK(previews(&scan, 3, 0, 0, KB_ACCEPTED, 6));
+    CHECK(previews(&scan, 3, 0, 9, KB_SLOTS_EXCEEDED, 0));
+    CHECK(previews(&scan, 3, 0, 5, KB_ACCEPTED, 4));
+    CHECK(previews(&scan, 4, 1, 9, KB_ACCEPTED, 4) && previews(&scan, 4, 1, 0, KB_ACCEPTED, 3));
+    CHECK(previews(&scan, 0, 2, 63, KB_ACCEPTED, 1) && previews(&scan, 0, 2, 0, KB_ACCEPTED, 0));
+    CHECK(previews(&scan, 3, 1, 64, KB_BLOCK_INVALID, 0) && previews(&scan, 3, 0, 64, KB_ACCOUNT_TOO_LARGE, 0));
+    CHECK(same(&scan, &before) && memcmp(kept, slots, sizeof slots) == 0);
+    CHECK(kb_preview(2, 4, copy, 6, 3, 0, 0).tiles == 6);
+    CHECK(kb_preview(2, 4, copy, 6, 3, 0, 9).number == KB_SLOTS_EXCEEDED);
+    CHECK(kb_preview(2, 4, copy, 7, 3, 0, 9).tiles == 7 && copy[6] == UINT32_MAX);
+    CHECK(kb_preview(2, 5, copy, 7, 3, 1, 64).number == KB_HIGH_BITS_SET);
+    CHECK(kb_preview(2, 8, copy, 7, 3, 0, 9).number == KB_COUNT_ABOVE_SLOTS);
+    CHECK(kb_preview(11, 8, copy, 7, 3, 0, 9).number == KB_ORDER_TOO_LARGE);
+    CHECK(kb_preview(0, 0, NULL, 0, 0, 0, 0).number == KB_ACCEPTED);
+}
+
 /* Accounts that a byte would cut are refused. */
 void test_accounts(void)
 {
@@ -97,6 +131,7 @@ void test_accounts(void)
     memcpy(kept, slots, sizeof slots);
     for (size_t i = 0; i < sizeof strange / sizeof *strange; i++) {
         CHECK(kb_scan_claim(&scan, 0, 1, strange[i]) == KB_ACCOUNT_TOO_LARGE && scan.tiles == 4);
+        CHECK(kb_scan_preview(&scan, 0, 1, strange[i]).number == KB_ACCOUNT_TOO_LARGE);
         CHECK(kb_scan_rights(&scan, 0, 0, strange[i]).number == KB_ASKER_INVALID);
         CHECK(memcmp(kept, slots, sizeof slots) == 0);
     }
@@ -125,6 +160,8 @@ void test_wide(void)
         CHECK(kb_scan_rights(&scan, 0, wide[i], 5).number == KB_POINT_OUTSIDE);
         CHECK(kb_scan_claim(&scan, wide[i], 0, 5) == KB_BLOCK_INVALID);
         CHECK(kb_scan_claim(&scan, 0, wide[i], 5) == KB_BLOCK_INVALID);
+        CHECK(kb_scan_preview(&scan, wide[i], 0, 5).number == KB_BLOCK_INVALID);
+        CHECK(kb_scan_preview(&scan, 0, wide[i], 5).number == KB_BLOCK_INVALID);
         CHECK(kb_scan_part(&scan, wide[i], 0).number == KB_BLOCK_INVALID);
         CHECK(kb_scan_part(&scan, 0, wide[i]).number == KB_BLOCK_INVALID);
         CHECK(kb_scan_shown(&scan, wide[i], 0).number == KB_BLOCK_INVALID);
@@ -197,7 +234,7 @@ void test_shown(void)
     CHECK(shown.number == KB_ACCOUNT_ZERO && shown.length == 0 && shown.account == KB_NO_ACCOUNT);
 }
 
-/* Claims one after another, each through the scan alone, beside a plain bed. */
+/* Claims one after another, each previewed and then made through the scan alone, beside a plain bed. */
 void test_many_claims(void)
 {
     static uint32_t slots[256];
@@ -211,7 +248,9 @@ void test_many_claims(void)
         uint32_t account = seed >> 28 & 3, size = seed >> 24 & 3, column = seed >> 16 & 15, row = seed >> 12 & 15;
         kb_block_answer block = kb_block(4, column, row, size);
         CHECK(block.number == KB_ACCEPTED);
+        kb_preview_answer preview = kb_scan_preview(&scan, block.corner, block.size, account);
         CHECK(kb_scan_claim(&scan, block.corner, block.size, account) == KB_ACCEPTED);
+        CHECK(preview.number == KB_ACCEPTED && preview.tiles == scan.tiles);
         for (uint32_t r = 0; r < 16; r++)
             for (uint32_t c = 0; c < 16; c++)
                 if (c >> size == column >> size && r >> size == row >> size)

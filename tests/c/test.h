@@ -28,6 +28,7 @@ void test_empty(void);
 void test_fresh(void);
 void test_feed(void);
 void test_claim(void);
+void test_preview(void);
 void test_accounts(void);
 void test_wide(void);
 void test_file(void);

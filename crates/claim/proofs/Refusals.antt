@@ -1,11 +1,10 @@
--- The refusals of a claim, in their order.
---     refusal-listed         a list that is refused decides
---     refusal-block, -given  then 32, then 24
---     checked-claimable      what has passed is claimable
---     refusal-claimable      and only 25 is left
---     claimOf-refused, -done   the answer and the storage, by the refusal
-use mathlib.Core.Path.{_≡_, _∙_, refl, sym}
-use mathlib.Core.Bool.{Bool, true, false}
+-- The refusals of a claim, in their order, and what a claim and its preview give by them.
+--     refusal-asked            what the checks ahead of the plan say, then 25
+--     checked-claimable        what passes them is claimable
+--     refusal-claimable        and only 25 is left
+--     claimOf-refused, -done   a claim's answer and storage, by the refusal
+--     previewOf-refused, -done   a preview's answer, by the refusal
+use mathlib.Core.Path.{_≡_, _∙_, refl, ap, sym}
 use mathlib.Core.List.{List}
 use Prim.Native.Nat.{ℕ, _≤_}
 use native.Mathlib.Omega.{arith}
@@ -13,27 +12,23 @@ use lib.Dec.{leb}
 use lib.ListN.{length}
 use Rattle.basics.proofs.Tests.{test-leb}
 use Rattle.refusal.specs.Refusal.{accepted, accountTooLarge, slotsExceeded, blockInvalid}
-use Rattle.refusal.specs.Checks.{must, After}
-use Rattle.refusal.proofs.CheckLaws.{must-on, must-inv, else-on, else-off, unless-on, unless-off}
+use Rattle.refusal.specs.Checks.{must, orElse, After}
+use Rattle.refusal.proofs.CheckLaws.{must-on, must-inv, else-on, else-off, else-inv, else-else, else-must, unless-on, unless-off}
 use Rattle.tile.specs.Tile.{Tile, highestAccount}
 use Rattle.tile.specs.Slots.{tilesIn, filled}
 use Rattle.quadtree.specs.Raster.{accountAt}
 use Rattle.quadtree.specs.Quadtree.{quadtree}
 use Rattle.list_check.specs.ListCheck.{listCheck}
 use Rattle.list_check.proofs.Accepts.{listCheck-valid}
-use Rattle.bed.specs.Bed.{blockIn, claimed, claimCheck}
+use Rattle.bed.specs.Bed.{blockIn, isAccount, claimed, claimCheck}
 use Rattle.bed.proofs.BedLaws.{test-blockIn}
 use Rattle.checks.specs.Asked.{blockCheck, givenCheck}
 use Rattle.checks.proofs.AskedLaws.{block-passed}
 use Rattle.claim_plan.specs.Plan.{Claimable}
 use Rattle.claim.specs.declared.Claimed.{Claimed}
 use Rattle.claim.specs.Claim.{claimRefusal, claimOf}
-
--- what comes behind a check does not matter where it refuses
-must-refused : (b : Bool) (r rest : ℕ) → (must b r accepted ≡ accepted → ⊥) → must b r rest ≡ must b r accepted
-unfolding must
-must-refused true r rest ne = absurd (ne refl)
-must-refused false r rest ne = refl
+use Rattle.claim.specs.Preview.{previewOf}
+use Rattle.claim.specs.Outcome.{askedCheck}
 
 module _ (n t : ℕ) (slots : List ℕ) (c k a : ℕ) where
   abbrev ts : List Tile
@@ -47,33 +42,41 @@ module _ (n t : ℕ) (slots : List ℕ) (c k a : ℕ) where
   unfolding claimOf
   claimOf-done e = sym (unless-on (claimRefusal n t slots c k a) (λ number. record { answer = record { number = number; tiles = 0 }; storage = slots }) (record { answer = record { number = accepted; tiles = length ts }; storage = filled (length slots) ts }) e)
 
-  pub refusal-listed : (listCheck n t slots ≡ accepted → ⊥) → claimRefusal n t slots c k a ≡ listCheck n t slots
-  unfolding claimRefusal
-  refusal-listed ne = else-off (listCheck n t slots) _ ne
+  pub previewOf-refused : (r : ℕ) → (r ≡ accepted → ⊥) → claimRefusal n t slots c k a ≡ r → _≡_ {A = Claimed} (record { number = r; tiles = 0 }) (previewOf n t slots c k a)
+  unfolding previewOf
+  previewOf-refused r ne e = sym (rw e (unless-off r (λ number. record { number = number; tiles = 0 }) (record { number = accepted; tiles = length ts }) ne))
 
-  module _ (e : listCheck n t slots ≡ accepted) where
-    behind : claimRefusal n t slots c k a ≡ claimCheck (length slots) n (accountAt (tilesIn t slots)) c k a
-    unfolding claimRefusal
-    behind = else-on (listCheck n t slots) _ e
+  pub previewOf-done : claimRefusal n t slots c k a ≡ accepted → _≡_ {A = Claimed} (record { number = accepted; tiles = length ts }) (previewOf n t slots c k a)
+  unfolding previewOf
+  previewOf-done e = sym (unless-on (claimRefusal n t slots c k a) (λ number. record { number = number; tiles = 0 }) (record { number = accepted; tiles = length ts }) e)
 
-    pub refusal-block : (blockCheck n c k ≡ accepted → ⊥) → claimRefusal n t slots c k a ≡ blockCheck n c k
-    unfolding claimCheck blockCheck
-    refusal-block ne = behind ∙ must-refused (blockIn n c k) blockInvalid _ ne
+  -- 25, which is checked last
+  abbrev last : ℕ
+  last = must (leb (length ts) (length slots)) slotsExceeded accepted
 
-    module _ (f : blockCheck n c k ≡ accepted) where
-      pub refusal-given : (givenCheck a ≡ accepted → ⊥) → claimRefusal n t slots c k a ≡ givenCheck a
-      unfolding claimCheck givenCheck
-      refusal-given ne = behind ∙ must-on blockInvalid _ (test-blockIn n c k) (block-passed n c k f) ∙ must-refused (leb a highestAccount) accountTooLarge _ ne
+  asked-last : claimRefusal n t slots c k a ≡ orElse (askedCheck n t slots c k a) last
+  unfolding claimRefusal claimCheck askedCheck blockCheck givenCheck orElse
+  asked-last =
+      let given : orElse (givenCheck a) last ≡ must (isAccount a) accountTooLarge last = else-must (isAccount a) accountTooLarge accepted last (omega arith) refl in
+      let block : orElse (blockCheck n c k) (orElse (givenCheck a) last) ≡ must (blockIn n c k) blockInvalid (must (isAccount a) accountTooLarge last) =
+      else-must (blockIn n c k) blockInvalid accepted (orElse (givenCheck a) last) (omega arith) given in
+      sym (else-else (listCheck n t slots) (orElse (blockCheck n c k) (givenCheck a)) last ∙ ap (λ (x : ℕ). orElse (listCheck n t slots) x)
+      (else-else (blockCheck n c k) (givenCheck a) last ∙ block))
 
-      pub checked-claimable : givenCheck a ≡ accepted → (t ≤ length slots) × Claimable n (tilesIn t slots) c k a
-      unfolding givenCheck
-      checked-claimable g =
-          let l = listCheck-valid n t slots .0 e in
-          let b = block-passed n c k f in
-          let d = must-inv (test-leb a highestAccount) (omega arith) g in
-          (l .1, record { order = l .0; valid = l .2; size = b .0; inside = b .1 .0; aligned = b .1 .1; account = d .0 })
+  pub refusal-asked : (askedCheck n t slots c k a ≡ accepted → ⊥) → claimRefusal n t slots c k a ≡ askedCheck n t slots c k a
+  refusal-asked ne = asked-last ∙ else-off (askedCheck n t slots c k a) last ne
 
-  pub refusal-claimable : t ≤ length slots → Claimable n (tilesIn t slots) c k a → claimRefusal n t slots c k a ≡ must (leb (length ts) (length slots)) slotsExceeded accepted
-  unfolding claimCheck
+  pub checked-claimable : askedCheck n t slots c k a ≡ accepted → (t ≤ length slots) × Claimable n (tilesIn t slots) c k a
+  unfolding askedCheck givenCheck
+  checked-claimable e =
+      let p = else-inv (listCheck n t slots) (orElse (blockCheck n c k) (givenCheck a)) e in
+      let q = else-inv (blockCheck n c k) (givenCheck a) (p .1) in
+      let l = listCheck-valid n t slots .0 (p .0) in
+      let b = block-passed n c k (q .0) in
+      let d = must-inv (test-leb a highestAccount) (omega arith) (q .1) in
+      (l .1, record { order = l .0; valid = l .2; size = b .0; inside = b .1 .0; aligned = b .1 .1; account = d .0 })
+
+  pub refusal-claimable : t ≤ length slots → Claimable n (tilesIn t slots) c k a → claimRefusal n t slots c k a ≡ last
+  unfolding claimRefusal claimCheck
   refusal-claimable h q =
-      behind (listCheck-valid n t slots .1 (q .order, h, q .valid)) ∙ must-on blockInvalid _ (test-blockIn n c k) (q .size, (q .inside, q .aligned)) ∙ must-on accountTooLarge _ (test-leb a highestAccount) (q .account)
+      else-on (listCheck n t slots) _ (listCheck-valid n t slots .1 (q .order, h, q .valid)) ∙ must-on blockInvalid _ (test-blockIn n c k) (q .size, (q .inside, q .aligned)) ∙ must-on accountTooLarge _ (test-leb a highestAccount) (q .account)

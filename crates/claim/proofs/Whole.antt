@@ -1,8 +1,10 @@
--- A claim as a whole: the plan, the stores and what they leave.
---     Known ..          what a claim knows once it is planned
---     Bounds ..         the numbers of it, which `bounds` gives
+-- A claim as a whole: how it ends by its plan, the stores and what they leave.
+--     ends-refused, -fits   what is known of an outcome, by its case
+--     Bounds ..         the numbers of a plan, which `bounds` gives
 --     known-drawn       what is written fits
---     known-refused     25
+--     known-few         25
+--     known-fits        no refusal
+--     known-preview     the preview's answer
 --     known-done        the slots after the stores
 use mathlib.Core.Path.{_≡_, _∙_, ap, sym}
 use mathlib.Core.List.{List, _++_, map, append-assoc, map-append}
@@ -24,18 +26,24 @@ use Rattle.claim_split.specs.Split.{pieces}
 use Rattle.claim_split.proofs.Split.{split-pieces}
 use Rattle.bed.specs.Bed.{claimed}
 use Rattle.claim_plan.specs.declared.Planned.{Planned}
-use Rattle.claim_plan.specs.Plan.{Claimable, Plans, inner}
+use Rattle.claim_plan.specs.Plan.{inner}
 use Rattle.claim_plan.proofs.Counts.{changes-pieces, changes-tiles}
 use Rattle.claim_store.specs.Stores.{Drawn, RoomMade}
 use Rattle.claim.specs.declared.Claimed.{Claimed}
-use Rattle.claim.specs.Claim.{claimOf}
+use Rattle.claim.specs.Claim.{claimRefusal, claimOf}
+use Rattle.claim.specs.Preview.{previewOf}
+use Rattle.claim.specs.Outcome.{Known, Ends}
+use Rattle.claim.specs.declared.Outcome.{Outcome}
+use Rattle.claim.specs.declared.Outcome.the-variants.{Refused, Fits}
 use Rattle.basics.proofs.MapLaws.{take-map, drop-map}
-use Rattle.claim.proofs.Refusals.{claimOf-refused, claimOf-done, refusal-claimable}
+use Rattle.claim.proofs.Refusals.{claimOf-done, previewOf-done, refusal-claimable}
 
-pub record Known (n t : ℕ) (s : List ℕ) (c k a : ℕ) (p : Planned) : Type 0 where
-  pub room : t ≤ length s
-  pub claimable : Claimable n (tilesIn t s) c k a
-  pub planned : Plans n (tilesIn t s) c k a p
+module _ (n t : ℕ) (s : List ℕ) (c k a : ℕ) {x : Outcome} where
+  pub ends-refused : {number : ℕ} → x ≡ Refused number → Ends n t s c k a x → (number ≡ accepted → ⊥) × (claimRefusal n t s c k a ≡ number)
+  ends-refused e h = rw e at h
+
+  pub ends-fits : {p : Planned} → x ≡ Fits p → Ends n t s c k a x → Known n t s c k a p × (p .tiles ≤ length s)
+  ends-fits e h = rw e at h
 
 pub record Bounds (length t a : ℕ) (p : Planned) : Type 0 where
   pub order : p .change .lo ≤ p .change .hi
@@ -82,8 +90,14 @@ module _ {n t : ℕ} {s : List ℕ} {c k a : ℕ} {p : Planned} (w : Known n t s
         fits = omega (arith, bounds .total, bounds .pieces);
       }
 
-  pub known-refused : length s < p .tiles → _≡_ {A = After Claimed} (record { answer = record { number = slotsExceeded; tiles = 0 }; storage = s }) (claimOf n t s c k a)
-  known-refused h = claimOf-refused n t s c k a slotsExceeded (λ e. omega arith) (refusal-claimable n t s c k a (w .room) (w .claimable) ∙ must-off slotsExceeded accepted (test-leb (length ts) (length s)) (λ l. omega (arith, w .planned .tiles)))
+  pub known-few : length s < p .tiles → claimRefusal n t s c k a ≡ slotsExceeded
+  known-few h = refusal-claimable n t s c k a (w .room) (w .claimable) ∙ must-off slotsExceeded accepted (test-leb (length ts) (length s)) (λ l. omega (arith, w .planned .tiles))
+
+  pub known-fits : p .tiles ≤ length s → claimRefusal n t s c k a ≡ accepted
+  known-fits h = refusal-claimable n t s c k a (w .room) (w .claimable) ∙ must-on slotsExceeded accepted (test-leb (length ts) (length s)) (omega (arith, w .planned .tiles))
+
+  pub known-preview : p .tiles ≤ length s → _≡_ {A = Claimed} (record { number = accepted; tiles = p .tiles }) (previewOf n t s c k a)
+  known-preview h = rw (w .planned .tiles) (previewOf-done n t s c k a (known-fits h))
 
   levels : p .change .top ≡ p .change .size + (p .change .top - p .change .size)
   levels = omega (arith, w .planned .change .split .sizes)
@@ -117,5 +131,4 @@ module _ {n t : ℕ} {s : List ℕ} {c k a : ℕ} {p : Planned} (w : Known n t s
     pub known-done : (r : List ℕ) → p .tiles ≤ length s → length y ≡ length s → r ≡ take (p .tiles) y ++ replicate (length y - p .tiles) 0 →
         _≡_ {A = After Claimed} (record { answer = record { number = accepted; tiles = p .tiles }; storage = r }) (claimOf n t s c k a)
     unfolding filled
-    known-done r h ly er =
-        rw (er, front, ly, w .planned .tiles) (claimOf-done n t s c k a (refusal-claimable n t s c k a (w .room) (w .claimable) ∙ must-on slotsExceeded accepted (test-leb (length ts) (length s)) (omega (arith, w .planned .tiles))))
+    known-done r h ly er = rw (er, front, ly, w .planned .tiles) (claimOf-done n t s c k a (known-fits h))

@@ -1,45 +1,81 @@
-// Claims: every pixel of a quadrant block gets an account. The list changes in place, by one move of its tail and a few
-// words.
-ghost use Prim.Native.Nat.{_≤_};
-ghost use lib.ListN.{length};
+// Claims: every pixel of a quadrant block gets an account. How a claim ends is known from its plan, which only reads: a
+// preview answers that and stops. A claim then changes the list in place, by one move of its tail and a few words.
+ghost use mathlib.Core.Path.{_≡_};
 ghost use Rattle.refusal.specs.Checks.{Gives};
-ghost use Rattle.tile.specs.Slots.{tilesIn};
-ghost use Rattle.claim_plan.specs.Plan.{Claimable};
 ghost use Rattle.claim.specs.Claim.{claimOf};
+ghost use Rattle.claim.specs.Preview.{previewOf};
+ghost use Rattle.claim.specs.Outcome.{askedCheck, Ends};
+use claim_plan::Planned;
 
-// A claim's answer: the tile count of the list that it leaves.
+// The answer of a claim, and of its preview: the tile count of the list that the claim leaves.
 #[repr(C)]
 pub struct Claimed {
     pub number: u32,
     pub tiles: usize,
 }
 
-// The claim of a quadrant block in a valid list: 25, or the stores.
-fn claim_block(
+// How a claim ends: by the first check broken, or with a plan whose list has slots enough.
+enum Outcome {
+    Refused(u32),
+    Fits(Planned),
+}
+
+// The checks ahead of the plan, in their order: those of the list, 32, 24.
+fn asked_check(order: u32, tiles: usize, slots: &[u32], corner: u32, size: u32, account: u8) -> u32
+    ensures { λ r. ⌜ r ≡ askedCheck order tiles (now (slots .entry)) corner size account ⌝ }
+{
+    let listed = list_check::check(order, tiles, slots);
+    if listed != refusal::ACCEPTED {
+        return listed;
+    }
+    let block = checks::block(order, corner, size);
+    if block != refusal::ACCEPTED {
+        return block;
+    }
+    checks::given(account)
+}
+
+// How the claim of a block for an account ends: these checks, then the plan, and 25 by its count. Nothing is stored, and
+// nothing else counts the tiles.
+fn foresee(order: u32, tiles: usize, slots: &[u32], corner: u32, size: u32, account: u8) -> Outcome
+    ensures { λ r. ⌜ Ends order tiles (now (slots .entry)) corner size account r ⌝ }
+{
+    let number = asked_check(order, tiles, slots, corner, size, account);
+    if number != refusal::ACCEPTED {
+        return Outcome::Refused(number);
+    }
+    let planned = claim_plan::plan(order, tiles, slots, corner, size, account);
+    if slots.len() < planned.tiles {
+        return Outcome::Refused(refusal::SLOTS_EXCEEDED);
+    }
+    Outcome::Fits(planned)
+}
+
+// A refusal's answer, which has no count.
+fn refused(number: u32) -> Claimed
+    ensures { λ r. ⌜ r ≡ record { number = number; tiles = 0 } ⌝ }
+{
+    Claimed { number, tiles: 0 }
+}
+
+// The offered call: what the claim of a block would answer, done on a copy of the list with as many slots. The slots
+// are only read.
+pub fn preview(
     order: u32,
     tiles: usize,
-    slots: &mut [u32],
+    slots: &[u32],
     corner: u32,
     size: u32,
     account: u8,
 ) -> Claimed
-    requires { ⌜ (tiles ≤ length (now slots)) × Claimable order (tilesIn tiles (now slots)) corner size account ⌝ }
-    ensures { λ r. ⌜ Gives r (now (slots .exit)) (claimOf order tiles (now (slots .entry)) corner size account) ⌝ }
+    ensures { λ r. ⌜ r ≡ previewOf order tiles (now (slots .entry)) corner size account ⌝ }
 {
-    let planned = claim_plan::plan(order, tiles, slots, corner, size, account);
-    if slots.len() < planned.tiles {
-        return Claimed {
-            number: refusal::SLOTS_EXCEEDED,
-            tiles: 0,
-        };
-    }
-    let change = planned.change;
-    claim_store::make_room(slots, change.lo, change.hi, tiles, planned.pieces);
-    claim_store::write_pieces(slots, change, planned.pieces, account);
-    list_words::clear_from(slots, planned.tiles);
-    Claimed {
-        number: refusal::ACCEPTED,
-        tiles: planned.tiles,
+    match foresee(order, tiles, slots, corner, size, account) {
+        Outcome::Refused(number) => refused(number),
+        Outcome::Fits(planned) => Claimed {
+            number: refusal::ACCEPTED,
+            tiles: planned.tiles,
+        },
     }
 }
 
@@ -55,26 +91,18 @@ pub fn claim(
 ) -> Claimed
     ensures { λ r. ⌜ Gives r (now (slots .exit)) (claimOf order tiles (now (slots .entry)) corner size account) ⌝ }
 {
-    let listed = list_check::check(order, tiles, slots);
-    if listed != refusal::ACCEPTED {
-        return Claimed {
-            number: listed,
-            tiles: 0,
-        };
+    match foresee(order, tiles, slots, corner, size, account) {
+        Outcome::Refused(number) => refused(number),
+        Outcome::Fits(planned) => {
+            let change = planned.change;
+            let after = planned.tiles;
+            claim_store::make_room(slots, change.lo, change.hi, tiles, planned.pieces);
+            claim_store::write_pieces(slots, change, planned.pieces, account);
+            list_words::clear_from(slots, after);
+            Claimed {
+                number: refusal::ACCEPTED,
+                tiles: after,
+            }
+        }
     }
-    let block = checks::block(order, corner, size);
-    if block != refusal::ACCEPTED {
-        return Claimed {
-            number: block,
-            tiles: 0,
-        };
-    }
-    let given = checks::given(account);
-    if given != refusal::ACCEPTED {
-        return Claimed {
-            number: given,
-            tiles: 0,
-        };
-    }
-    claim_block(order, tiles, slots, corner, size, account)
 }

@@ -15,6 +15,7 @@ ghost use Rattle.part.specs.Part.{partOf};
 ghost use Rattle.rights.specs.Rights.{rightsOf};
 ghost use Rattle.claim.specs.declared.Claimed.{Claimed};
 ghost use Rattle.claim.specs.Claim.{claimOf};
+ghost use Rattle.claim.specs.Preview.{previewOf};
 ghost use Rattle.combine.specs.declared.Combined.{Combined};
 ghost use Rattle.combine.specs.Combine.{combineOf};
 ghost use Rattle.mapfile_write.specs.declared.Written.{Written};
@@ -236,6 +237,20 @@ pub extern "C" fn kb_claim(
     ensures { λ r. ⌜ Gives r (now (slots .exit)) (claimOf order tiles (now (slots .entry)) corner size account) ⌝ }
 {
     claim::claim(order, tiles, slots, corner, size, account)
+}
+
+#[no_mangle]
+pub extern "C" fn kb_preview(
+    order: u32,
+    tiles: usize,
+    slots: &[u32],
+    corner: u32,
+    size: u32,
+    account: u8,
+) -> Claimed
+    ensures { λ r. ⌜ r ≡ previewOf order tiles (now (slots .entry)) corner size account ⌝ }
+{
+    claim::preview(order, tiles, slots, corner, size, account)
 }
 
 #[no_mangle]

@@ -20,6 +20,7 @@ pub enum Command {
     Scan { image: Source, out: Target },
     Decode { file: Source, out: Target, plain: bool },
     Claim { file: Source, out: Option<Target>, claim: Claim },
+    Preview { file: Source, claim: Claim },
     Combine { choice: Choice, file: Source, zones: Source, out: Target },
     Draw { file: Source, out: Target, style: Style },
 }
@@ -66,6 +67,7 @@ pub fn parse(args: impl IntoIterator<Item = OsString>) -> Result<Command, Failur
         Some("decode") => {
             Command::Decode { file: line.source("FILE")?, out: line.target()?, plain: line.flag("--plain") }
         }
+        Some("preview") => Command::Preview { file: line.source("FILE")?, claim: line.block(true)? },
         Some("claim") => line.claim(true)?,
         Some("release") => line.claim(false)?,
         Some("inside") => line.combine(Choice::Inside)?,
@@ -161,12 +163,15 @@ impl Line {
     }
 
     fn claim(&mut self, account: bool) -> Result<Command, Failure> {
-        let file = self.source("FILE")?;
+        let (file, claim) = (self.source("FILE")?, self.block(account)?);
+        Ok(Command::Claim { file, out: self.value("-o").map(Target::of), claim })
+    }
+
+    fn block(&mut self, account: bool) -> Result<Claim, Failure> {
         let corner = corner(&self.word("CORNER")?.to_string_lossy())?;
         let size = self.number("SIZE")?;
         let account = if account { Some(self.number("ACCOUNT")?) } else { None };
-        let out = self.value("-o").map(Target::of);
-        Ok(Command::Claim { file, out, claim: Claim { corner, size, account } })
+        Ok(Claim { corner, size, account })
     }
 
     fn combine(&mut self, choice: Choice) -> Result<Command, Failure> {

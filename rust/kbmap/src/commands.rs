@@ -8,7 +8,7 @@ mod draw;
 mod raster;
 
 pub use ask::{at, show};
-pub use change::claim;
+pub use change::{claim, preview};
 pub use check::check;
 pub use combine::combine;
 pub use draw::draw;

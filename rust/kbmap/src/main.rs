@@ -44,6 +44,7 @@ fn obey(command: Command) -> Result<(), Failure> {
         Command::At { file, pixel } => commands::at(file, pixel),
         Command::Scan { image, out } => commands::scan(&image, &out),
         Command::Decode { file, out, plain } => commands::decode(file, &out, plain),
+        Command::Preview { file, claim } => commands::preview(file, &claim),
         Command::Claim { file, out, claim } => commands::claim(file, out, &claim),
         Command::Combine { choice, file, zones, out } => commands::combine(choice, file, zones, &out),
         Command::Draw { file, out, style } => commands::draw(file, &out, &style),

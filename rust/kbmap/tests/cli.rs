@@ -197,6 +197,25 @@ fn claim_and_release() {
     assert_eq!(scratch.names(), ["bed.map"]);
 }
 
+/// A preview tells what the claim then does, and does nothing.
+#[test]
+fn preview() {
+    let scratch = Scratch::with_bed();
+    let told = "bed.map: columns 2 to 3, rows 0 to 1: would be account 9's, student\n  \
+                holds now: account 9 (1 pixel), nobody's (3 pixels)\n  tiles: 4 now, 4 after\n";
+    assert_eq!(scratch.kbmap("preview bed.map 3,0 1 9"), ok(told));
+    let released = "standard input: column 0, row 0: would be nobody's\n  holds now: account 5 (1 pixel)\n  \
+                    tiles: 4 now, 6 after\n";
+    assert_eq!(scratch.fed("preview - 0 0 0", &BED), ok(released));
+    for (claim, tiles) in [("0 0 9", 7), ("0 1 9", 4), ("8 1 9", 4), ("8 0 0", 3), ("0 2 7", 1), ("0 2 0", 0)] {
+        let answer = scratch.kbmap(&format!("preview bed.map {claim}"));
+        assert!(answer.text().ends_with(&format!("\n  tiles: 4 now, {tiles} after\n")), "{}", answer.text());
+        let claimed = scratch.fed(&format!("claim - {claim}"), &BED).err;
+        assert!(claimed.ends_with(&format!("\n  tiles: 4 before, {tiles} after\n")), "{claimed}");
+    }
+    assert_eq!((scratch.get("bed.map"), scratch.names()), (BED.to_vec(), vec!["bed.map".to_owned()]));
+}
+
 #[test]
 fn claims_say_what_was_there() {
     let scratch = Scratch::with_bed();
@@ -236,6 +255,9 @@ fn claim_refuses() {
     ];
     for (line, start, asked) in cases {
         let answer = scratch.kbmap(line);
+        if line.starts_with("claim") {
+            assert_eq!(scratch.kbmap(&line.replace("claim", "preview")), answer);
+        }
         assert!(answer.status == 1 && answer.out.is_empty(), "{line}");
         assert!(answer.err.starts_with(start), "{}", answer.err);
         assert!(answer.err.ends_with(&format!("\n  {asked}{detail}")), "{}", answer.err);

@@ -67,7 +67,7 @@ pub struct Right {
     pub yes: u8,
 }
 
-/// `kb_claim_answer`.
+/// `kb_claim_answer`, and `kb_preview_answer`, which has the same fields.
 #[repr(C)]
 #[derive(Clone, Copy, Debug, PartialEq, Eq)]
 pub struct Claimed {

@@ -200,6 +200,32 @@ impl Count {
         plain
     }
 
+    /// The number and the tile count.
+    pub fn preview<'a>(&mut self, at: impl Into<At<'a>>, corner: u32, size: u32, account: u8) -> (u32, usize) {
+        let at = at.into();
+        let plain = list::preview(at.order, at.tiles, at.slots, corner, size, account);
+        self.previewed(at, (corner, size, account), plain);
+        plain
+    }
+
+    /// A preview of slots, and of a copy of the list that has other words behind it, as the plain implementation told.
+    fn previewed(&mut self, at: At, (corner, size, account): (u32, u32, u8), plain: (u32, usize)) {
+        let given = (at, corner, size, account);
+        let mut copy = at.slots.to_vec();
+        copy.iter_mut().skip(at.tiles).for_each(|word| *word = !*word);
+        for slots in [at.slots, &copy] {
+            let lent = Lent::new(slots);
+            let answer = raw::preview(at.order, at.tiles, lent.as_ref(), corner, size, account);
+            same("preview", &given, (answer.number, answer.tiles), plain);
+            lent.must_be("preview", &given, slots);
+        }
+        for bed in at.beds() {
+            let wrapped = bed.and_then(|bed| bed.preview(Block { corner, size }, Account(account)));
+            same("preview of a bed", &given, flat(wrapped), some(plain.0, plain.1));
+        }
+        self.add(plain.0);
+    }
+
     /// The number and, accepted, the file.
     pub fn write<'a>(&mut self, at: impl Into<At<'a>>, bytes: &[u8]) -> (u32, Vec<u8>) {
         let at = at.into();
@@ -265,7 +291,7 @@ impl Count {
         (number, taken, next)
     }
 
-    /// The number and the tile count.
+    /// The number and the tile count. Ahead of the claim a preview tells both.
     pub fn claim(
         &mut self,
         at: (u32, usize),
@@ -278,6 +304,7 @@ impl Count {
         let before = slots.clone();
         let given = (order, tiles, Brief(&before), corner, size, account);
         let (number, count, after) = list::claim(order, tiles, slots, corner, size, account);
+        self.previewed((order, tiles, &before).into(), (corner, size, account), (number, count));
         let mut lent = Lent::new(slots);
         let answer = raw::claim(order, tiles, lent.as_mut(), corner, size, account);
         same("claim", &given, (answer.number, answer.tiles), (number, count));

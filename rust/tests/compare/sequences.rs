@@ -91,19 +91,27 @@ fn feed(random: &mut Random, count: &mut Count, state: &mut State) {
     }
 }
 
-fn claim(random: &mut Random, count: &mut Count, state: &mut State) {
-    let slots = &state.living.slots;
-    let (corner, size) = block(random, state.living.record.order);
-    let account = match random.below(8) {
+/// An account to claim for, often that of the first tile, now and then none.
+fn given(random: &mut Random, slots: &[u32]) -> u8 {
+    match random.below(8) {
         0 => random.pick(&[64, 100, 255]),
         1 | 2 => 0,
         3 => random.below(64) as u8,
         _ => slots.first().map_or(5, |word| (word % 64) as u8),
-    };
-    let m = slots.len();
+    }
+}
+
+/// A preview, told by the plain bed from what the claim then does to it, and the claim.
+fn claim(random: &mut Random, count: &mut Count, state: &mut State) {
+    let (corner, size) = block(random, state.living.record.order);
+    let account = given(random, &state.living.slots);
+    let m = state.living.slots.len();
+    let preview = count.preview(state.living.at(), corner, size, account);
     let number = state.living.claim(count, corner, size, account);
     if let Some(bed) = &mut state.bed {
         assert_eq!(number, bed.claim(m, corner, size, account), "claim: the plain bed answers otherwise");
+        let tiles = if number == 0 { bed.blocks().len() } else { 0 };
+        assert_eq!(preview, (number, tiles), "preview: the plain bed answers otherwise");
     }
 }
 
@@ -164,7 +172,7 @@ pub fn ask(random: &mut Random, count: &mut Count, at: At) {
     let (order, slots) = (at.order, at.slots);
     let side = 1usize << order.min(10);
     let (column, row) = (random.below(side + 1) as u32, random.below(side + 1) as u32);
-    match random.below(8) {
+    match random.below(9) {
         0 => {
             count.check(at);
         }
@@ -188,6 +196,10 @@ pub fn ask(random: &mut Random, count: &mut Count, at: At) {
             count.rights(at, column, row, asking);
         }
         6 => third(random, count, at),
+        7 => {
+            let (corner, size) = block(random, order);
+            count.preview(at, corner, size, given(random, slots));
+        }
         _ => {
             let room = random.below(6 + 4 * slots.len() + 5 * slots.len().min(63) + 3);
             count.write(at, &vec![0x5a; room]);

@@ -59,6 +59,8 @@ fn bed_m(count: &mut Count) {
     let mut slots = M_WORDS.to_vec();
     slots.resize(6, 0);
     let mut living = Living::of_list(2, 4, &slots);
+    assert_eq!(count.preview(living.at(), 3, 0, 9), (25, 0));
+    assert_eq!(count.preview(living.at(), 3, 0, 0), (0, 6));
     assert_eq!((living.claim(count, 3, 0, 0), living.record.tiles), (0, 6));
     assert_eq!(living.slots, [word(0, 0, 5), word(1, 0, 5), word(2, 0, 5), 7177, 8201, 12361]);
 }

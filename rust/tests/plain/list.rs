@@ -211,6 +211,12 @@ pub fn claim(order: u32, tiles: usize, slots: &[u32], corner: u32, size: u32, ac
     }
 }
 
+/// The number and the tile count: those of the claim on a copy.
+pub fn preview(order: u32, tiles: usize, slots: &[u32], corner: u32, size: u32, account: u8) -> (u32, usize) {
+    let (number, count, _) = claim(order, tiles, slots, corner, size, account);
+    (number, count)
+}
+
 /// An order, a tile count and slots.
 pub type Map<'a> = (u32, usize, &'a [u32]);
 

@@ -47,6 +47,8 @@ fn claims() {
     assert_eq!(parsed("release bed.map 40,24 3 -o new.map"), Ok(released));
     let piped = Command::Claim { file: Source::Standard, out: None, claim: claim(Corner::Morton(0), None) };
     assert_eq!(parsed("release - 0 3"), Ok(piped));
+    let preview = Command::Preview { file: bed(), claim: claim(Corner::Morton(2496), Some(21)) };
+    assert_eq!(parsed("preview bed.map 2496 3 21"), Ok(preview));
 }
 
 #[test]
@@ -99,6 +101,8 @@ fn mistakes() {
     assert_eq!(hint("claim a 1,2 4294967296 3"), "SIZE is a whole number from 0 to 4294967295, not 4294967296");
     assert_eq!(hint("claim a 1, 2 3"), "ROW is a whole number from 0 to 4294967295, not ");
     assert_eq!(hint("release a 0 1 2"), "release takes no further 2");
+    assert_eq!(hint("preview a 0 1"), "ACCOUNT is missing");
+    assert_eq!(hint("preview a 0 1 2 -o b"), "preview takes no -o here");
     assert_eq!(hint("inside a -o c"), "ZONES is missing");
     assert_eq!(hint("inside a b"), "-o is missing: where should the result go?");
     assert_eq!(hint("inside - - -o c"), "FILE and ZONES cannot both be standard input");
@@ -113,7 +117,9 @@ fn mistakes() {
 #[test]
 fn help() {
     assert!(HELP.lines().all(|line| line.len() <= 80));
-    for command in ["check", "show", "at", "scan", "decode", "claim", "release", "inside", "outside", "draw"] {
+    let asking = ["check", "show", "at", "preview"];
+    let making = ["scan", "decode", "claim", "release", "inside", "outside", "draw"];
+    for command in asking.iter().chain(&making) {
         assert!(HELP.contains(&format!("  kbmap {command} ")), "{command}");
     }
 }

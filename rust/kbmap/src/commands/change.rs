@@ -1,4 +1,4 @@
-//! `claim` and `release`: a block changes hands.
+//! `claim` and `release`: a block changes hands; `preview`: what that would come to.
 
 use super::{apart, tell};
 use crate::args::{Claim, Corner};
@@ -6,10 +6,23 @@ use crate::failure::Failure;
 use crate::input::Source;
 use crate::lock::{same_file, Locked};
 use crate::map::{self, Map};
-use crate::output::{Target, Writing};
+use crate::output::{print, Target, Writing};
 use crate::words::{class, count, span};
 use kingletbed::{raw, Account, Block, Refusal};
 use std::collections::BTreeMap;
+
+/// Tells what a claim would do, and does nothing.
+pub fn preview(file: Source, claim: &Claim) -> Result<(), Failure> {
+    let map = Map::open(file)?;
+    let foreseen = wanted(&map, claim).and_then(|(block, account)| {
+        let after = map.bed.preview(block, account)?;
+        Ok((block, account, after, held(&map, block)?))
+    });
+    let (block, account, after, held) = foreseen.map_err(|refusal| map.refused(refusal, asked(claim, &map)))?;
+    let (name, span, who) = (map.source.name(), span(block).unwrap_or_default(), whose(account));
+    let tiles = format!("{} now, {after} after", map.bed.words().len());
+    print(&format!("{name}: {span}: would be {who}\n  holds now: {held}\n  tiles: {tiles}\n"))
+}
 
 /// Gives a block to an account, or to nobody, and writes the changed map.
 pub fn claim(file: Source, out: Option<Target>, claim: &Claim) -> Result<(), Failure> {
@@ -30,11 +43,7 @@ pub fn claim(file: Source, out: Option<Target>, claim: &Claim) -> Result<(), Fai
         Some(locked) => locked.replace(writing).map_err(|error| Failure::trouble(out.name(), &error))?,
         None => out.write_bytes(writing)?,
     }
-    let span = span(block).unwrap_or_default();
-    let who = match account {
-        Account::NOBODY => "nobody's".to_owned(),
-        Account(number) => format!("account {number}'s, {}", class(account)),
-    };
+    let (span, who) = (span(block).unwrap_or_default(), whose(account));
     let after = map.bed.words().len();
     let tiles = format!("{before} before, {after} after");
     tell(&out, &format!("{}: {span}: now {who}\n  held before: {held}\n  tiles: {tiles}", out.name()))
@@ -63,14 +72,28 @@ fn lock(file: &Source, out: &Target) -> Result<Option<Locked>, Failure> {
     }
 }
 
-/// The block, its new account, and what the block held before.
-fn change(map: &mut Map, claim: &Claim) -> Result<(Block, Account, String), Refusal> {
+/// "account 9's, student".
+fn whose(account: Account) -> String {
+    match account {
+        Account::NOBODY => "nobody's".to_owned(),
+        Account(number) => format!("account {number}'s, {}", class(account)),
+    }
+}
+
+/// The block, and its new account.
+fn wanted(map: &Map, claim: &Claim) -> Result<(Block, Account), Refusal> {
     let block = match claim.corner {
         Corner::Morton(corner) => Block { corner, size: claim.size },
         Corner::In(pixel) => Block::around(map.bed.order(), pixel, claim.size)?,
     };
     let number = claim.account.unwrap_or(u32::from(Account::NOBODY.0));
     let account = u8::try_from(number).map(Account).map_err(|_| Refusal::AccountTooLarge)?;
+    Ok((block, account))
+}
+
+/// The block, its new account, and what the block held before.
+fn change(map: &mut Map, claim: &Claim) -> Result<(Block, Account, String), Refusal> {
+    let (block, account) = wanted(map, claim)?;
     let held = held(map, block);
     match claim.account {
         None => map.bed.release(block)?,

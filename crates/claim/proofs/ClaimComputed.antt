@@ -1,0 +1,28 @@
+-- The worked lines of previews, computed.
+use mathlib.Core.Path.{refl}
+use Rattle.basics.specs.Choice.{if, some}
+use Rattle.refusal.specs.Checks.{must, orElse, unless}
+use Rattle.tile.specs.Tile.{tileOf}
+use Rattle.tile.specs.Slots.{tilesIn}
+use Rattle.quadtree.specs.Raster.{aligned, uniform, paint, accountAt}
+use Rattle.quadtree.specs.Quadtree.{single, four, blocks, quadtree}
+use Rattle.list_check.specs.ListCheck.{follows, lastOfFour, ended, soundCheck, wordCheck, wordsCheck, listCheck}
+use Rattle.bed.specs.Bed.{blockIn, claimCheck}
+use Rattle.claim.specs.Claim.{claimRefusal}
+use Rattle.claim.specs.Preview.{previewOf}
+use Rattle.claim.specs.Worked.{PreviewLines}
+
+pub preview-lines : PreviewLines
+unfolding if some must orElse unless tileOf tilesIn aligned uniform paint accountAt single four blocks quadtree follows lastOfFour ended soundCheck wordCheck wordsCheck listCheck blockIn claimCheck claimRefusal previewOf
+preview-lines = record {
+  release = refl;
+  five = refl;
+  split = refl;
+  own = refl;
+  merged = refl;
+  whole = refl;
+  nothing = refl;
+  list-first = refl;
+  block-then = refl;
+  account-last = refl;
+}

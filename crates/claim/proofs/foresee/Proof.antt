@@ -1,0 +1,46 @@
+-- The checks, the plan, 25.
+use mathlib.Core.Path.{_∙_, sym}
+use Prim.Native.Nat.{_≤_}
+use native.Mathlib.Omega.{arith}
+use borrow.Author.Needs.{needs}
+use lib.ListN.{length}
+use Rattle.tile.specs.Slots.{tilesIn}
+use Rattle.claim_plan.specs.Plan.{Claimable}
+use Rattle.claim.specs.Outcome.{Known}
+use Rattle.claim.proofs.Refusals.{refusal-asked, checked-claimable}
+use Rattle.claim.proofs.Whole.{known-few}
+use Rattle.claim.proofs.foresee.Statement.{statement}
+use Rattle.claim.proofs.foresee.Tie as tie
+
+returns : tie.Need-returns
+returns c =
+    let a = c .before .before .before .args in
+    let asked = c .before .asked-check in
+    let r = refusal-asked (a .order) (a .tiles) (a .slots .now) (a .corner) (a .size) (a .account) (λ e. c .if1 .taken (asked .ensures ∙ e)) in
+    (c .if1 .taken, r ∙ sym (asked .ensures))
+
+-- what is known where the checks ahead of the plan have passed
+claimable : (c : tie.Else1) →
+    let a = c .before .before .before .args in
+    (a .tiles ≤ length (a .slots .now)) × Claimable (a .order) (tilesIn (a .tiles) (a .slots .now)) (a .corner) (a .size) (a .account)
+claimable c =
+    let a = c .before .before .before .args in
+    checked-claimable (a .order) (a .tiles) (a .slots .now) (a .corner) (a .size) (a .account) (sym (c .before .asked-check .ensures) ∙ c .if1 .left)
+
+-- and where the claim is planned
+known : (c : tie.After-plan) →
+    let a = c .before .before .before .before .args in
+    Known (a .order) (a .tiles) (a .slots .now) (a .corner) (a .size) (a .account) (c .plan .result)
+known c = record { room = claimable (c .before) .0; claimable = claimable (c .before) .1; planned = c .plan .ensures }
+
+returns-2 : tie.Need-returns-2
+returns-2 c = ((λ e. omega arith), known-few (known (c .before .before)) (c .if2 .taken))
+
+returns-3 : tie.Need-returns-3
+returns-3 c = (known (c .before .before), c .if2 .left)
+
+plan-requires : tie.Need-plan-requires
+plan-requires c κs = claimable c
+
+pub foresee-spec : {M : Type 1} → statement M
+foresee-spec = tie.close (tie.spec (λ c κs. search needs) returns plan-requires returns-2 returns-3)

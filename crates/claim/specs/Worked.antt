@@ -1,0 +1,40 @@
+-- Worked lines of previews, on bed M of document 01 in six slots, as one table. All are computed by the checker
+-- (proofs/ClaimComputed.antt).
+use mathlib.Core.Path.{_≡_}
+use mathlib.Core.List.{List, [], _∷_, _++_}
+use Prim.Native.Nat.{ℕ}
+use Rattle.refusal.specs.Refusal.{accepted, tilesOverlap, accountTooLarge, slotsExceeded, blockInvalid}
+use Rattle.bed.specs.Worked.{wordsM}
+use Rattle.claim.specs.declared.Claimed.{Claimed}
+use Rattle.claim.specs.Preview.{previewOf}
+
+-- M's four words, and behind them two slots that hold anything
+abbrev pub sixSlots : List ℕ
+sixSlots = wordsM ++ 1 ∷ 1 ∷ []
+
+abbrev pub fiveSlots : List ℕ
+fiveSlots = wordsM ++ 1 ∷ []
+
+-- three quarters of a bed of order 1, in as many slots: (0, 0, 7) (1, 0, 7) (3, 0, 7)
+abbrev pub threeSlots : List ℕ
+threeSlots = 7 ∷ 1031 ∷ 3079 ∷ []
+
+abbrev pub answered : ℕ → ℕ → Claimed
+answered number count = record { number = number; tiles = count }
+
+pub record PreviewLines : Type 0 where
+  -- releasing (3, size 0) would leave six tiles, for which five slots are too few; given to 9 it would leave seven
+  pub release : previewOf 2 4 sixSlots 3 0 0 ≡ answered accepted 6
+  pub five : previewOf 2 4 fiveSlots 3 0 0 ≡ answered slotsExceeded 0
+  pub split : previewOf 2 4 sixSlots 3 0 9 ≡ answered slotsExceeded 0
+  -- 5 has it already: nothing would change, with all slots in use
+  pub own : previewOf 2 4 wordsM 3 0 5 ≡ answered accepted 4
+  -- the fourth quarter of a block completes it, and one tile takes the place of three
+  pub merged : previewOf 1 3 threeSlots 2 0 7 ≡ answered accepted 1
+  -- the whole bed given to one account, and to nobody
+  pub whole : previewOf 2 4 sixSlots 0 2 63 ≡ answered accepted 1
+  pub nothing : previewOf 2 4 sixSlots 0 2 0 ≡ answered accepted 0
+  -- the list is checked first, then the block, then the account: here all three are bad, two, and one
+  pub list-first : previewOf 2 5 sixSlots 3 1 64 ≡ answered tilesOverlap 0
+  pub block-then : previewOf 2 4 sixSlots 3 1 64 ≡ answered blockInvalid 0
+  pub account-last : previewOf 2 4 wordsM 3 0 64 ≡ answered accountTooLarge 0
