@@ -35,8 +35,8 @@ fn asked_check(order: u32, tiles: usize, slots: &[u32], corner: u32, size: u32, 
     checks::given(account)
 }
 
-// How the claim of a block for an account ends: these checks, then the plan, and 25 by its count. Nothing is stored, and
-// nothing else counts the tiles.
+// How the claim of a block for an account ends: these checks, then the plan, and 25 by its count. Nothing is stored,
+// and nothing else counts the tiles.
 fn foresee(order: u32, tiles: usize, slots: &[u32], corner: u32, size: u32, account: u8) -> Outcome
     ensures { λ r. ⌜ Ends order tiles (now (slots .entry)) corner size account r ⌝ }
 {
