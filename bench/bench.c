@@ -127,6 +127,27 @@ static void cell(const struct timing *ours, const struct timing *straight, size_
     printf("| %.2f ×%.2f ", least(ours) / (double)(units ? units : 1), ratio(ours, straight));
 }
 
+/* Two cells: a block of 16 pixels is previewed, and then claimed and released in turn. */
+static void claims(struct bench *b, size_t m, uint32_t corner)
+{
+    uint32_t order = b->order, *slots = b->slots;
+    size_t tiles = b->tiles, left = tiles;
+    struct timing ours, straight;
+    if (kb_preview(order, tiles, slots, m, corner, 2, 9).tiles
+        != straight_preview(order, tiles, slots, m, corner, 2, 9).tiles) {
+        fprintf(stderr, "bench: straightforward C previews another count\n");
+        exit(1);
+    }
+    BOTH(ours, must(kb_preview(order, tiles, slots, m, corner, 2, 9).number),
+         straight, must(straight_preview(order, tiles, slots, m, corner, 2, 9).number));
+    cell(&ours, &straight, tiles);
+    BOTH(ours, left = kb_claim(order, left, slots, m, corner, 2, 9).tiles;
+         left = kb_claim(order, left, slots, m, corner, 2, 0).tiles,
+         straight, left = straight_claim(order, left, slots, m, corner, 2, 9).tiles;
+         left = straight_claim(order, left, slots, m, corner, 2, 0).tiles);
+    cell(&ours, &straight, 2 * tiles);
+}
+
 /* One row of the table of the other calls. Every call but the fresh scan and the reader checks the list first. */
 static void calls(struct bench *b)
 {
@@ -147,16 +168,7 @@ static void calls(struct bench *b)
     BOTH(ours, must(kb_rights(order, tiles, slots, m, at, at, 9).number),
          straight, must(straight_rights(order, tiles, slots, m, at, at, 9).number));
     cell(&ours, &straight, tiles);
-    /* A block of 16 pixels is previewed, and then claimed and released in turn. */
-    BOTH(ours, must(kb_preview(order, tiles, slots, m, corner, 2, 9).number),
-         straight, must(straight_preview(order, tiles, slots, m, corner, 2, 9).number));
-    cell(&ours, &straight, tiles);
-    size_t left = tiles;
-    BOTH(ours, left = kb_claim(order, left, slots, m, corner, 2, 9).tiles;
-         left = kb_claim(order, left, slots, m, corner, 2, 0).tiles,
-         straight, left = straight_claim(order, left, slots, m, corner, 2, 9).tiles;
-         left = straight_claim(order, left, slots, m, corner, 2, 0).tiles);
-    cell(&ours, &straight, 2 * tiles);
+    claims(b, m, corner);
     memcpy(slots, b->list, tiles * sizeof *slots);
     size_t length = kb_write(order, tiles, slots, m, b->file, KB_FILE_MOST(b->pixels)).length;
     BOTH(ours, must(kb_write(order, tiles, slots, m, b->file, length).number),

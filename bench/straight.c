@@ -132,8 +132,8 @@ kb_rights_answer straight_rights(uint32_t order, size_t tiles, const uint32_t *s
     return answer;
 }
 
-/* The pieces of a tile around and with a block inside it that gets another account; returns how many. */
-static size_t split(uint32_t tile, uint32_t corner, uint32_t size, uint8_t account, uint32_t *pieces)
+/* The pieces of a tile around and with a block inside it that gets another account. */
+static void split(uint32_t tile, uint32_t corner, uint32_t size, uint8_t account, uint32_t *pieces)
 {
     size_t count = 0;
     uint32_t start = corner_of(tile);
@@ -151,7 +151,6 @@ static size_t split(uint32_t tile, uint32_t corner, uint32_t size, uint8_t accou
         for (uint32_t q = quarter + 1; q < 4; q++)
             pieces[count++] = word_of(parent + q * area(k), k, account_of(tile));
     }
-    return count;
 }
 
 /* Whether the three siblings of a block stand next to the run [low, high) whose place it takes. */
@@ -170,38 +169,37 @@ static int siblings(size_t tiles, const uint32_t *slots, size_t low, size_t high
     return 1;
 }
 
-/* What a claim changes: the tiles from low up to high give way to `count` pieces. */
+/* What a claim changes: the tiles from low up to high give way to `count` tiles. They are the word `tile`, or what is
+   left of it around the block and the block itself, if it is cut. */
 struct plan {
-    uint32_t pieces[3 * KB_HIGHEST_ORDER + 1];
-    size_t count, low, high;
+    size_t low, high, count;
+    uint32_t tile;
+    int cut;
 };
 
-static void find_change(uint32_t order, size_t tiles, const uint32_t *slots, uint32_t corner, uint32_t size,
-                        uint8_t account, struct plan *plan)
+static struct plan find_change(uint32_t order, size_t tiles, const uint32_t *slots, uint32_t corner, uint32_t size,
+                               uint8_t account)
 {
-    size_t low = find(tiles, slots, corner), high;
-    plan->count = 0;
-    if (low < tiles && corner_of(slots[low]) <= corner && size_of(slots[low]) > size) {
-        high = low + 1;
-        if (account_of(slots[low]) == account)
-            plan->pieces[plan->count++] = slots[low];
-        else
-            plan->count = split(slots[low], corner, size, account, plan->pieces);
-    } else {
-        high = find(tiles, slots, corner + area(size));
-        if (account) {
-            uint32_t block = word_of(corner, size, account);
-            while (size_of(block) < order && siblings(tiles, slots, low, high, block)) {
-                uint32_t k = size_of(block), place = corner_of(block) >> 2 * k & 3;
-                low -= place;
-                high += 3 - place;
-                block = word_of(corner_of(block) - place * area(k), k + 1, account);
-            }
-            plan->pieces[plan->count++] = block;
+    struct plan plan = {find(tiles, slots, corner), 0, 1, 0, 0};
+    if (plan.low < tiles && corner_of(slots[plan.low]) <= corner && size_of(slots[plan.low]) > size) {
+        plan.tile = slots[plan.low];
+        plan.high = plan.low + 1;
+        if (account_of(plan.tile) != account) {
+            plan.cut = 1;
+            plan.count = 3 * (size_of(plan.tile) - size) + (account != 0);
         }
+        return plan;
     }
-    plan->low = low;
-    plan->high = high;
+    plan.high = find(tiles, slots, corner + area(size));
+    plan.count = account != 0;
+    plan.tile = word_of(corner, size, account);
+    while (account && size_of(plan.tile) < order && siblings(tiles, slots, plan.low, plan.high, plan.tile)) {
+        uint32_t k = size_of(plan.tile), place = corner_of(plan.tile) >> 2 * k & 3;
+        plan.low -= place;
+        plan.high += 3 - place;
+        plan.tile = word_of(corner_of(plan.tile) - place * area(k), k + 1, account);
+    }
+    return plan;
 }
 
 /* The checks of a claim and its plan: what the claim answers, with nothing stored. */
@@ -219,7 +217,7 @@ static kb_claim_answer plan_claim(uint32_t order, size_t tiles, const uint32_t *
         answer.number = KB_ACCOUNT_TOO_LARGE;
         return answer;
     }
-    find_change(order, tiles, slots, corner, size, account, plan);
+    *plan = find_change(order, tiles, slots, corner, size, account);
     size_t after = tiles - (plan->high - plan->low) + plan->count;
     if (after > slots_length)
         answer.number = KB_SLOTS_EXCEEDED;
@@ -245,7 +243,10 @@ kb_claim_answer straight_claim(uint32_t order, size_t tiles, uint32_t *slots, si
     if (answer.number)
         return answer;
     memmove(slots + plan.low + plan.count, slots + plan.high, (tiles - plan.high) * sizeof *slots);
-    memcpy(slots + plan.low, plan.pieces, plan.count * sizeof *slots);
+    if (plan.cut)
+        split(plan.tile, corner, size, account, slots + plan.low);
+    else if (plan.count)
+        slots[plan.low] = plan.tile;
     if (slots_length > answer.tiles)
         memset(slots + answer.tiles, 0, (slots_length - answer.tiles) * sizeof *slots);
     return answer;

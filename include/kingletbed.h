@@ -238,12 +238,11 @@ KB_MUST_USE kb_rights_answer kb_rights(uint32_t order, size_t tiles, const uint3
 KB_MUST_USE kb_claim_answer kb_claim(uint32_t order, size_t tiles, uint32_t *slots, size_t slots_length,
                                      uint32_t corner, uint32_t size, uint8_t account);
 
-/* Tells what a claim would come to, before it is made: what kb_claim answers to the same arguments, done on a copy of
-   the list with as many slots. What the slots behind the list hold does not matter. The answer holds as long as the map
-   is as it was.
-     refuses   what kb_claim refuses, in the same order
-     answers   the tile count after the claim; accepted, there are slots enough for it. It goes with no slots yet: do not
-               hand it over as the count of these
+/* Tells what a claim would come to, before it is made: what kb_claim would answer to the same arguments on a copy of
+   the list with as many slots, whatever stands behind the list. Account 0 previews a release; so does one cut to a byte
+   on its way here, 256 to 0: see kb_account_byte. The answer holds while map and number of slots stay as they are.
+     refuses   the list checks, KB_BLOCK_INVALID, KB_ACCOUNT_TOO_LARGE, KB_SLOTS_EXCEEDED, as kb_claim does
+     answers   the tile count that the claim would leave. Before the claim is made it is not the count of these slots
      storage   nothing is written */
 KB_MUST_USE kb_preview_answer kb_preview(uint32_t order, size_t tiles, const uint32_t *slots, size_t slots_length,
                                          uint32_t corner, uint32_t size, uint8_t account);
@@ -379,7 +378,8 @@ KB_MUST_USE static inline uint32_t kb_scan_claim(kb_scan *scan, uint64_t corner,
     return claimed.number;
 }
 
-/* What kb_scan_claim would come to: its number, and the tile count that the scan would have. The scan stays as it is. */
+/* What kb_scan_claim would answer and, accepted, the tile count that the scan would then have; refused, it is 0. The
+   scan stays as it is. */
 KB_MUST_USE static inline kb_preview_answer kb_scan_preview(const kb_scan *scan, uint64_t corner, uint64_t size,
                                                             uint64_t account)
 {

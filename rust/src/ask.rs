@@ -155,9 +155,9 @@ impl<S: AsRef<[u32]>> Bed<S> {
         Ok(answer.yes != 0)
     }
 
-    /// What a claim would come to, with nothing changed: the tile count after it, or its refusal. It is what
-    /// [`claim`](Bed::claim) answers on a copy of the bed with as many slots; of a [`release`](Bed::release) it is the
-    /// preview of a claim for [`Account::NOBODY`]. [`tiles`](Bed::tiles) has the count before.
+    /// What a claim would come to, with nothing changed: the refusal that [`claim`](Bed::claim) would give on a copy of
+    /// the bed with as many slots, or the number of tiles that the copy would then have. For a
+    /// [`release`](Bed::release) preview a claim for [`Account::NOBODY`].
     ///
     /// ```
     /// use kingletbed::{Account, Bed, Block, Refusal};

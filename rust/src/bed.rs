@@ -165,6 +165,7 @@ impl<S: AsRef<[u32]> + AsMut<[u32]>> Bed<S> {
 
     /// Gives every pixel of a block to an account; [`Account::NOBODY`] releases them. The slots then hold the new list,
     /// and 0 behind it. While a claim has a tile on a pixel that is not scanned yet, feeds are refused.
+    /// [`preview`](Bed::preview) tells beforehand how many tiles a claim leaves.
     ///
     /// ```
     /// use kingletbed::{Account, Bed, Block, Pixel};

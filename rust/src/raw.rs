@@ -3,9 +3,9 @@
 //! [`Bed`](crate::Bed).
 //!
 //! No call asks anything of its caller: the library answers every input, and the slices see to the memory. What nothing
-//! here protects from is a tile count that belongs to other slots, or to the same slots earlier. After a claim or a
-//! feed the count of before may still be that of a map, but of another bed, on which somebody's pixel reads as
-//! nobody's:
+//! here protects from is a tile count that belongs to other slots, or to the same slots at another time: earlier, or
+//! after a claim that was only previewed. After a claim or a feed the count of before may still be that of a map, but
+//! of another bed, on which somebody's pixel reads as nobody's:
 //!
 //! ```
 //! use kingletbed::raw;
@@ -329,6 +329,8 @@ mod tests {
             assert_eq!(kb_rights(0, 0, null_mut(), 0, 0, 0, 8), Right { number: 0, yes: 1 });
             assert_eq!(kb_claim(0, 0, null_mut(), 0, 0, 0, 8), Claimed { number: 25, tiles: 0 });
             assert_eq!(kb_claim(0, 0, null_mut(), 0, 0, 0, 0), Claimed { number: 0, tiles: 0 });
+            assert_eq!(kb_preview(0, 0, null_mut(), 0, 0, 0, 8), Claimed { number: 25, tiles: 0 });
+            assert_eq!(kb_preview(0, 0, null_mut(), 0, 0, 0, 0), Claimed { number: 0, tiles: 0 });
             let combined = |number| Combined { number, tiles: 0 };
             assert_eq!(kb_combine(0, 10, 0, null_mut(), 0, 10, 0, null_mut(), 0, null_mut(), 0), combined(0));
             assert_eq!(kb_combine(0, 10, 0, null_mut(), 0, 10, 1, null_mut(), 0, null_mut(), 0), combined(2));

@@ -29,7 +29,7 @@ fn no_stale_bed() -> Result<(), Refusal> {
     Ok(())
 }
 
-/// A refused claim, and a stopped feed, leave a bed that answers as before.
+/// A refused claim or preview, and a stopped feed, leave a bed that answers as before.
 #[test]
 fn refused_calls_leave_a_bed() -> Result<(), Refusal> {
     let mut bed = Bed::from_slots(2, 4, M_WORDS)?;

@@ -95,11 +95,12 @@ static int previews(const kb_scan *scan, uint32_t corner, uint32_t size, uint32_
     return preview.number == number && preview.tiles == tiles;
 }
 
-/* Each refusal and each way that a claim can go, with the slots as they were; and a copy of the list, of which the
-   slots behind it are others. */
+/* Refusals in their order and each way that a claim can go, with the slots as they were; and a copy of the list that
+   has other words behind it. */
 void test_preview(void)
 {
-    uint32_t slots[6], kept[6], copy[7] = {69, 7177, 8201, 12361, UINT32_MAX, UINT32_MAX, UINT32_MAX};
+    const uint32_t copy[7] = {69, 7177, 8201, 12361, UINT32_MAX, UINT32_MAX, UINT32_MAX}, quarters[3] = {7, 1031, 3079};
+    uint32_t slots[6], kept[6];
     kb_scan scan = NO_SCAN;
     scan_bed_m(&scan, slots, 6);
     kb_scan before = scan;
@@ -113,7 +114,8 @@ void test_preview(void)
     CHECK(same(&scan, &before) && memcmp(kept, slots, sizeof slots) == 0);
     CHECK(kb_preview(2, 4, copy, 6, 3, 0, 0).tiles == 6);
     CHECK(kb_preview(2, 4, copy, 6, 3, 0, 9).number == KB_SLOTS_EXCEEDED);
-    CHECK(kb_preview(2, 4, copy, 7, 3, 0, 9).tiles == 7 && copy[6] == UINT32_MAX);
+    CHECK(kb_preview(2, 4, copy, 7, 3, 0, 9).tiles == 7);
+    CHECK(kb_preview(1, 3, quarters, 3, 2, 0, 7).tiles == 1);
     CHECK(kb_preview(2, 5, copy, 7, 3, 1, 64).number == KB_HIGH_BITS_SET);
     CHECK(kb_preview(2, 8, copy, 7, 3, 0, 9).number == KB_COUNT_ABOVE_SLOTS);
     CHECK(kb_preview(11, 8, copy, 7, 3, 0, 9).number == KB_ORDER_TOO_LARGE);

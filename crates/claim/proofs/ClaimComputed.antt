@@ -8,21 +8,27 @@ use Rattle.quadtree.specs.Raster.{aligned, uniform, paint, accountAt}
 use Rattle.quadtree.specs.Quadtree.{single, four, blocks, quadtree}
 use Rattle.list_check.specs.ListCheck.{follows, lastOfFour, ended, soundCheck, wordCheck, wordsCheck, listCheck}
 use Rattle.bed.specs.Bed.{blockIn, claimCheck}
-use Rattle.claim.specs.Claim.{claimRefusal}
+use Rattle.claim.specs.Claim.{claimRefusal, claimOf}
 use Rattle.claim.specs.Preview.{previewOf}
 use Rattle.claim.specs.Worked.{PreviewLines}
 
 pub preview-lines : PreviewLines
-unfolding if some must orElse unless tileOf tilesIn aligned uniform paint accountAt single four blocks quadtree follows lastOfFour ended soundCheck wordCheck wordsCheck listCheck blockIn claimCheck claimRefusal previewOf
+unfolding if some must orElse unless tileOf tilesIn aligned uniform paint accountAt single four blocks quadtree follows lastOfFour ended soundCheck wordCheck wordsCheck listCheck blockIn claimCheck claimRefusal claimOf previewOf
 preview-lines = record {
   release = refl;
   five = refl;
   split = refl;
+  copy = record { list = refl; lent = refl };
+  copy-release = refl;
+  copy-split = refl;
   own = refl;
   merged = refl;
   whole = refl;
   nothing = refl;
-  list-first = refl;
+  order-first = refl;
+  count-then = refl;
+  list-then = refl;
   block-then = refl;
-  account-last = refl;
+  account-then = refl;
+  slots-last = refl;
 }

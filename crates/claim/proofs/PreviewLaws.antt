@@ -7,7 +7,7 @@ use mathlib.Core.List.{List, map}
 use Prim.Native.Nat.{ℕ}
 use Rattle.refusal.specs.Checks.{After}
 use Rattle.refusal.proofs.CheckLaws.{unless-alike}
-use Rattle.tile.specs.Tile.{Tile, tileOf}
+use Rattle.tile.specs.Tile.{tileOf}
 use Rattle.tile.specs.Slots.{tilesIn}
 use Rattle.list_check.specs.ListCheck.{listCheck}
 use Rattle.claim.specs.declared.Claimed.{Claimed}

@@ -1,9 +1,10 @@
 -- The refusals of a claim, in their order, and what a claim and its preview give by them.
---     refusal-asked            what the checks ahead of the plan say, then 25
+--     check-then-slots         the checks ahead of the plan, then 25
+--     refusal-ahead            a refusal by the checks ahead of the plan decides
 --     checked-claimable        what passes them is claimable
 --     refusal-claimable        and only 25 is left
 --     claimOf-refused, -done   a claim's answer and storage, by the refusal
---     previewOf-refused, -done   a preview's answer, by the refusal
+--     previewOf-refused, -done a preview's answer, by the refusal
 use mathlib.Core.Path.{_≡_, _∙_, refl, ap, sym}
 use mathlib.Core.List.{List}
 use Prim.Native.Nat.{ℕ, _≤_}
@@ -28,7 +29,7 @@ use Rattle.claim_plan.specs.Plan.{Claimable}
 use Rattle.claim.specs.declared.Claimed.{Claimed}
 use Rattle.claim.specs.Claim.{claimRefusal, claimOf}
 use Rattle.claim.specs.Preview.{previewOf}
-use Rattle.claim.specs.Outcome.{askedCheck}
+use Rattle.claim.specs.Outcome.{planCheck}
 
 module _ (n t : ℕ) (slots : List ℕ) (c k a : ℕ) where
   abbrev ts : List Tile
@@ -54,20 +55,20 @@ module _ (n t : ℕ) (slots : List ℕ) (c k a : ℕ) where
   abbrev last : ℕ
   last = must (leb (length ts) (length slots)) slotsExceeded accepted
 
-  asked-last : claimRefusal n t slots c k a ≡ orElse (askedCheck n t slots c k a) last
-  unfolding claimRefusal claimCheck askedCheck blockCheck givenCheck orElse
-  asked-last =
+  check-then-slots : claimRefusal n t slots c k a ≡ orElse (planCheck n t slots c k a) last
+  unfolding claimRefusal claimCheck planCheck blockCheck givenCheck orElse
+  check-then-slots =
       let given : orElse (givenCheck a) last ≡ must (isAccount a) accountTooLarge last = else-must (isAccount a) accountTooLarge accepted last (omega arith) refl in
       let block : orElse (blockCheck n c k) (orElse (givenCheck a) last) ≡ must (blockIn n c k) blockInvalid (must (isAccount a) accountTooLarge last) =
       else-must (blockIn n c k) blockInvalid accepted (orElse (givenCheck a) last) (omega arith) given in
       sym (else-else (listCheck n t slots) (orElse (blockCheck n c k) (givenCheck a)) last ∙ ap (λ (x : ℕ). orElse (listCheck n t slots) x)
       (else-else (blockCheck n c k) (givenCheck a) last ∙ block))
 
-  pub refusal-asked : (askedCheck n t slots c k a ≡ accepted → ⊥) → claimRefusal n t slots c k a ≡ askedCheck n t slots c k a
-  refusal-asked ne = asked-last ∙ else-off (askedCheck n t slots c k a) last ne
+  pub refusal-ahead : (planCheck n t slots c k a ≡ accepted → ⊥) → claimRefusal n t slots c k a ≡ planCheck n t slots c k a
+  refusal-ahead ne = check-then-slots ∙ else-off (planCheck n t slots c k a) last ne
 
-  pub checked-claimable : askedCheck n t slots c k a ≡ accepted → (t ≤ length slots) × Claimable n (tilesIn t slots) c k a
-  unfolding askedCheck givenCheck
+  pub checked-claimable : planCheck n t slots c k a ≡ accepted → (t ≤ length slots) × Claimable n (tilesIn t slots) c k a
+  unfolding planCheck givenCheck
   checked-claimable e =
       let p = else-inv (listCheck n t slots) (orElse (blockCheck n c k) (givenCheck a)) e in
       let q = else-inv (blockCheck n c k) (givenCheck a) (p .1) in

@@ -1,5 +1,5 @@
 -- Inner: how a claim ends, found without a store. Definitions only.
---     askedCheck n t s c k a    the checks ahead of the plan: the list's, 32, 24
+--     planCheck n t s c k a    the checks ahead of the plan: the list's, 32, 24
 --     Known n t s c k a p       p is the plan of a claim that has passed these
 --     Ends n t s c k a r        r is how the claim ends
 use mathlib.Core.Path.{_≡_}
@@ -17,8 +17,8 @@ use Rattle.claim.specs.declared.Outcome.{Outcome}
 use Rattle.claim.specs.declared.Outcome.the-variants.{Refused, Fits}
 use Rattle.claim.specs.Claim.{claimRefusal}
 
-unfoldable pub askedCheck : ℕ → ℕ → List ℕ → ℕ → ℕ → ℕ → ℕ
-askedCheck n t s c k a = orElse (listCheck n t s) (orElse (blockCheck n c k) (givenCheck a))
+unfoldable pub planCheck : ℕ → ℕ → List ℕ → ℕ → ℕ → ℕ → ℕ
+planCheck n t s c k a = orElse (listCheck n t s) (orElse (blockCheck n c k) (givenCheck a))
 
 pub record Known (n t : ℕ) (s : List ℕ) (c k a : ℕ) (p : Planned) : Type 0 where
   pub room : t ≤ length s

@@ -1,10 +1,11 @@
-// Claims: every pixel of a quadrant block gets an account. How a claim ends is known from its plan, which only reads: a
-// preview answers that and stops. A claim then changes the list in place, by one move of its tail and a few words.
+// Claims: every pixel of a quadrant block gets an account. How a claim ends is known from its checks and its plan,
+// which only read: a preview answers that and stops. A claim then changes the list in place, by one move of its tail
+// and a few words.
 ghost use mathlib.Core.Path.{_≡_};
 ghost use Rattle.refusal.specs.Checks.{Gives};
 ghost use Rattle.claim.specs.Claim.{claimOf};
 ghost use Rattle.claim.specs.Preview.{previewOf};
-ghost use Rattle.claim.specs.Outcome.{askedCheck, Ends};
+ghost use Rattle.claim.specs.Outcome.{planCheck, Ends};
 use claim_plan::Planned;
 
 // The answer of a claim, and of its preview: the tile count of the list that the claim leaves.
@@ -21,8 +22,8 @@ enum Outcome {
 }
 
 // The checks ahead of the plan, in their order: those of the list, 32, 24.
-fn asked_check(order: u32, tiles: usize, slots: &[u32], corner: u32, size: u32, account: u8) -> u32
-    ensures { λ r. ⌜ r ≡ askedCheck order tiles (now (slots .entry)) corner size account ⌝ }
+fn plan_check(order: u32, tiles: usize, slots: &[u32], corner: u32, size: u32, account: u8) -> u32
+    ensures { λ r. ⌜ r ≡ planCheck order tiles (now (slots .entry)) corner size account ⌝ }
 {
     let listed = list_check::check(order, tiles, slots);
     if listed != refusal::ACCEPTED {
@@ -35,17 +36,18 @@ fn asked_check(order: u32, tiles: usize, slots: &[u32], corner: u32, size: u32, 
     checks::given(account)
 }
 
-// How the claim of a block for an account ends: these checks, then the plan, and 25 by its count. Nothing is stored,
+// How the claim of a block for an account ends: `plan_check`, then the plan, and 25 by its count. Nothing is stored,
 // and nothing else counts the tiles.
 fn foresee(order: u32, tiles: usize, slots: &[u32], corner: u32, size: u32, account: u8) -> Outcome
     ensures { λ r. ⌜ Ends order tiles (now (slots .entry)) corner size account r ⌝ }
 {
-    let number = asked_check(order, tiles, slots, corner, size, account);
+    let number = plan_check(order, tiles, slots, corner, size, account);
     if number != refusal::ACCEPTED {
         return Outcome::Refused(number);
     }
     let planned = claim_plan::plan(order, tiles, slots, corner, size, account);
-    if slots.len() < planned.tiles {
+    let after = planned.tiles;
+    if slots.len() < after {
         return Outcome::Refused(refusal::SLOTS_EXCEEDED);
     }
     Outcome::Fits(planned)

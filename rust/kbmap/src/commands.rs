@@ -1,4 +1,4 @@
-//! The commands, one file each or for each pair.
+//! The commands, in a file each, or together with those that are like them.
 
 mod ask;
 mod change;

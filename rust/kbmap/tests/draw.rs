@@ -204,7 +204,13 @@ fn wild_names() {
         assert!(!drawn.text().contains(['\u{ffff}', '\u{1b}']), "{style}");
     }
     let seen = "b\u{ffff}\\x1b[2J\\x0a.map";
-    for words in [&["draw", name][..], &["check", name], &["show", name], &["claim", name, "0", "0", "5"]] {
+    for words in [
+        &["draw", name][..],
+        &["check", name],
+        &["show", name],
+        &["preview", name, "0", "0", "5"],
+        &["claim", name, "0", "0", "5"],
+    ] {
         let said = called(words);
         assert!(said.text().starts_with(seen) && said.status == 0, "{said:?}");
     }

@@ -53,6 +53,8 @@ fn claims_wait() {
     let mut claim = begun(&scratch, "claim bed.map 5 0 7");
     std::thread::sleep(Duration::from_millis(200));
     assert!(claim.try_wait().unwrap().is_none());
+    // A preview only reads, and waits for nobody.
+    assert!(scratch.kbmap("preview bed.map 5 0 7").text().ends_with("  tiles: 4 now, 5 after\n"));
     scratch.put("new.map", &[2, 0, 0, 0, 0, 0]);
     fs::rename(scratch.path.join("new.map"), scratch.path.join("bed.map")).unwrap();
     drop(held);

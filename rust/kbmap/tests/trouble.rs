@@ -33,6 +33,7 @@ fn unreadable() {
         "check no.map",
         "show no.map",
         "at no.map 0 0",
+        "preview no.map 0 0 7",
         "draw no.map",
         "scan no.map -o x",
         "release no.map 0 0",
@@ -85,7 +86,15 @@ fn full_disk() {
     ] {
         assert_eq!(trouble(&scratch, line), "kbmap: /dev/full: No space left on device\n");
     }
-    for line in ["--help", "check bed.map", "show bed.map", "at bed.map 0 0", "decode bed.map -o -", "draw bed.map"] {
+    for line in [
+        "--help",
+        "check bed.map",
+        "show bed.map",
+        "at bed.map 0 0",
+        "preview bed.map 0 0 7",
+        "decode bed.map -o -",
+        "draw bed.map",
+    ] {
         let full = OpenOptions::new().write(true).open("/dev/full").unwrap();
         let mut command = scratch.command(KBMAP);
         let output = command.args(line.split_whitespace()).stdout(full).output().unwrap();
@@ -128,6 +137,7 @@ fn closed_pipe() {
         "check -",
         "show -",
         "at - 0 0",
+        "preview - 0 0 7",
         "decode - -o -",
         "release - 0 0",
         "inside - bed.map -o -",

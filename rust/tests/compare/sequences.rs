@@ -101,7 +101,7 @@ fn given(random: &mut Random, slots: &[u32]) -> u8 {
     }
 }
 
-/// A preview, told by the plain bed from what the claim then does to it, and the claim.
+/// A preview and then its claim; the count previewed is that of the plain bed's blocks afterwards.
 fn claim(random: &mut Random, count: &mut Count, state: &mut State) {
     let (corner, size) = block(random, state.living.record.order);
     let account = given(random, &state.living.slots);

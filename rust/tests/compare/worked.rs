@@ -1,5 +1,5 @@
-//! The worked lines of the scope paper, those that are proved as well. The numbers are the paper's, not the plain
-//! implementation's.
+//! The worked lines of the scope paper, those that are proved as well, and two of previews. The numbers are the paper's
+//! or computed by the checker, not the plain implementation's.
 
 use crate::living::Living;
 use crate::pair::Count;

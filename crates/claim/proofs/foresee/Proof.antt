@@ -7,7 +7,7 @@ use lib.ListN.{length}
 use Rattle.tile.specs.Slots.{tilesIn}
 use Rattle.claim_plan.specs.Plan.{Claimable}
 use Rattle.claim.specs.Outcome.{Known}
-use Rattle.claim.proofs.Refusals.{refusal-asked, checked-claimable}
+use Rattle.claim.proofs.Refusals.{refusal-ahead, checked-claimable}
 use Rattle.claim.proofs.Whole.{known-few}
 use Rattle.claim.proofs.foresee.Statement.{statement}
 use Rattle.claim.proofs.foresee.Tie as tie
@@ -15,8 +15,8 @@ use Rattle.claim.proofs.foresee.Tie as tie
 returns : tie.Need-returns
 returns c =
     let a = c .before .before .before .args in
-    let asked = c .before .asked-check in
-    let r = refusal-asked (a .order) (a .tiles) (a .slots .now) (a .corner) (a .size) (a .account) (λ e. c .if1 .taken (asked .ensures ∙ e)) in
+    let asked = c .before .plan-check in
+    let r = refusal-ahead (a .order) (a .tiles) (a .slots .now) (a .corner) (a .size) (a .account) (λ e. c .if1 .taken (asked .ensures ∙ e)) in
     (c .if1 .taken, r ∙ sym (asked .ensures))
 
 -- what is known where the checks ahead of the plan have passed
@@ -25,7 +25,7 @@ claimable : (c : tie.Else1) →
     (a .tiles ≤ length (a .slots .now)) × Claimable (a .order) (tilesIn (a .tiles) (a .slots .now)) (a .corner) (a .size) (a .account)
 claimable c =
     let a = c .before .before .before .args in
-    checked-claimable (a .order) (a .tiles) (a .slots .now) (a .corner) (a .size) (a .account) (sym (c .before .asked-check .ensures) ∙ c .if1 .left)
+    checked-claimable (a .order) (a .tiles) (a .slots .now) (a .corner) (a .size) (a .account) (sym (c .before .plan-check .ensures) ∙ c .if1 .left)
 
 -- and where the claim is planned
 known : (c : tie.After-plan) →
@@ -33,11 +33,11 @@ known : (c : tie.After-plan) →
     Known (a .order) (a .tiles) (a .slots .now) (a .corner) (a .size) (a .account) (c .plan .result)
 known c = record { room = claimable (c .before) .0; claimable = claimable (c .before) .1; planned = c .plan .ensures }
 
-returns-2 : tie.Need-returns-2
-returns-2 c = ((λ e. omega arith), known-few (known (c .before .before)) (c .if2 .taken))
-
 returns-3 : tie.Need-returns-3
-returns-3 c = (known (c .before .before), c .if2 .left)
+returns-3 c = (known (c .before), omega (arith, c .if2 .left))
+
+returns-2 : tie.Need-returns-2
+returns-2 c = ((λ e. omega arith), known-few (known (c .before)) (c .if2 .taken))
 
 plan-requires : tie.Need-plan-requires
 plan-requires c κs = claimable c
