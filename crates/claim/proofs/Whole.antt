@@ -1,11 +1,11 @@
 -- A claim as a whole: how it ends by its plan, the stores and what they leave.
 --     ends-refused, -fits   what is known of an outcome, by its case
---     Bounds ..         the numbers of a plan, which `bounds` gives
---     known-drawn       what is written fits
---     known-few         25
---     known-fits        no refusal
---     known-preview     the preview's answer
---     known-done        the slots after the stores
+--     Bounds ..             the numbers of a plan, which `bounds` gives
+--     known-drawn           what is written fits
+--     known-few             25
+--     known-fits            no refusal
+--     known-preview         the preview's answer
+--     known-done            the slots after the stores
 use mathlib.Core.Path.{_≡_, _∙_, ap, sym}
 use mathlib.Core.List.{List, _++_, map, append-assoc, map-append}
 use Prim.Native.Nat.{ℕ, _+_, _-_, _*_, _^_, _≤_, _<_}

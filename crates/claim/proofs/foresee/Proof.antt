@@ -15,9 +15,9 @@ use Rattle.claim.proofs.foresee.Tie as tie
 returns : tie.Need-returns
 returns c =
     let a = c .before .before .before .args in
-    let asked = c .before .plan-check in
-    let r = refusal-ahead (a .order) (a .tiles) (a .slots .now) (a .corner) (a .size) (a .account) (λ e. c .if1 .taken (asked .ensures ∙ e)) in
-    (c .if1 .taken, r ∙ sym (asked .ensures))
+    let check = c .before .plan-check in
+    let r = refusal-ahead (a .order) (a .tiles) (a .slots .now) (a .corner) (a .size) (a .account) (λ e. c .if1 .taken (check .ensures ∙ e)) in
+    (c .if1 .taken, r ∙ sym (check .ensures))
 
 -- what is known where the checks ahead of the plan have passed
 claimable : (c : tie.Else1) →
