@@ -22,6 +22,10 @@ rowsM = 5 ∷ 5 ∷ 0 ∷ 0 ∷ 5 ∷ 5 ∷ 0 ∷ 9 ∷ 9 ∷ 0 ∷ 9 ∷ 9 ∷ 
 abbrev pub wordsM : List ℕ
 wordsM = 69 ∷ 7177 ∷ 8201 ∷ 12361 ∷ []
 
+-- the list in six slots, of which the last two hold other words
+abbrev pub slotsM : List ℕ
+slotsM = wordsM ++ 1 ∷ 1 ∷ []
+
 -- a bed of order 2 by rows with the first row scanned and nobody's, and then (3, size 0) claimed
 abbrev pub claimedEarly : Bed
 claimedEarly = bedOf Rows 2 4 (claimed (λ z. 0) 3 0 5)

@@ -1,6 +1,6 @@
 -- A preview answers what the claim answers, done on a copy of the list with as many slots.
 --     claim-answer    on the slots themselves: one refusal, and one count
---     preview-copy    nothing of it hangs on what stands behind the list
+--     preview-copy    nothing of it depends on what stands behind the list
 --     preview-claim   both: the promise
 use mathlib.Core.Path.{_≡_, _∙_, refl, ap, sym}
 use mathlib.Core.List.{List, map}
@@ -14,7 +14,7 @@ use Rattle.claim.specs.declared.Claimed.{Claimed}
 use Rattle.claim.specs.Claim.{claimRefusal, claimOf}
 use Rattle.claim.specs.Preview.{previewOf, Copies, PreviewIsClaim}
 
-claim-answer : (n t : ℕ) (slots : List ℕ) (c k a : ℕ) → claimOf n t slots c k a .answer ≡ previewOf n t slots c k a
+pub claim-answer : (n t : ℕ) (slots : List ℕ) (c k a : ℕ) → claimOf n t slots c k a .answer ≡ previewOf n t slots c k a
 unfolding claimOf previewOf
 claim-answer n t slots c k a = unless-alike (λ (x : After Claimed) (y : Claimed). x .answer ≡ y) (claimRefusal n t slots c k a) (λ number. refl) (λ e. refl)
 

@@ -1,10 +1,9 @@
--- The refusals of a claim, in their order, and what a claim and its preview give by them.
+-- The refusals of a claim, in their order, and what a claim gives by them.
 --     check-then-slots         the checks ahead of the plan, then 25
 --     refusal-ahead            a refusal by the checks ahead of the plan decides
 --     checked-claimable        what passes them is claimable
 --     refusal-claimable        and only 25 is left
 --     claimOf-refused, -done   a claim's answer and storage, by the refusal
---     previewOf-refused, -done a preview's answer, by the refusal
 use mathlib.Core.Path.{_≡_, _∙_, refl, ap, sym}
 use mathlib.Core.List.{List}
 use Prim.Native.Nat.{ℕ, _≤_}
@@ -28,7 +27,6 @@ use Rattle.checks.proofs.AskedLaws.{block-passed}
 use Rattle.claim_plan.specs.Plan.{Claimable}
 use Rattle.claim.specs.declared.Claimed.{Claimed}
 use Rattle.claim.specs.Claim.{claimRefusal, claimOf}
-use Rattle.claim.specs.Preview.{previewOf}
 use Rattle.claim.specs.Outcome.{planCheck}
 
 module _ (n t : ℕ) (slots : List ℕ) (c k a : ℕ) where
@@ -42,14 +40,6 @@ module _ (n t : ℕ) (slots : List ℕ) (c k a : ℕ) where
   pub claimOf-done : claimRefusal n t slots c k a ≡ accepted → _≡_ {A = After Claimed} (record { answer = record { number = accepted; tiles = length ts }; storage = filled (length slots) ts }) (claimOf n t slots c k a)
   unfolding claimOf
   claimOf-done e = sym (unless-on (claimRefusal n t slots c k a) (λ number. record { answer = record { number = number; tiles = 0 }; storage = slots }) (record { answer = record { number = accepted; tiles = length ts }; storage = filled (length slots) ts }) e)
-
-  pub previewOf-refused : (r : ℕ) → (r ≡ accepted → ⊥) → claimRefusal n t slots c k a ≡ r → _≡_ {A = Claimed} (record { number = r; tiles = 0 }) (previewOf n t slots c k a)
-  unfolding previewOf
-  previewOf-refused r ne e = sym (rw e (unless-off r (λ number. record { number = number; tiles = 0 }) (record { number = accepted; tiles = length ts }) ne))
-
-  pub previewOf-done : claimRefusal n t slots c k a ≡ accepted → _≡_ {A = Claimed} (record { number = accepted; tiles = length ts }) (previewOf n t slots c k a)
-  unfolding previewOf
-  previewOf-done e = sym (unless-on (claimRefusal n t slots c k a) (λ number. record { number = number; tiles = 0 }) (record { number = accepted; tiles = length ts }) e)
 
   -- 25, which is checked last
   abbrev last : ℕ

@@ -36,7 +36,8 @@ use Rattle.claim.specs.Outcome.{Known, Ends}
 use Rattle.claim.specs.declared.Outcome.{Outcome}
 use Rattle.claim.specs.declared.Outcome.the-variants.{Refused, Fits}
 use Rattle.basics.proofs.MapLaws.{take-map, drop-map}
-use Rattle.claim.proofs.Refusals.{claimOf-done, previewOf-done, refusal-claimable}
+use Rattle.claim.proofs.Refusals.{claimOf-done, refusal-claimable}
+use Rattle.claim.proofs.PreviewLaws.{claim-answer}
 
 module _ (n t : ℕ) (s : List ℕ) (c k a : ℕ) {x : Outcome} where
   pub ends-refused : {number : ℕ} → x ≡ Refused number → Ends n t s c k a x → (number ≡ accepted → ⊥) × (claimRefusal n t s c k a ≡ number)
@@ -97,7 +98,7 @@ module _ {n t : ℕ} {s : List ℕ} {c k a : ℕ} {p : Planned} (w : Known n t s
   known-fits h = refusal-claimable n t s c k a (w .room) (w .claimable) ∙ must-on slotsExceeded accepted (test-leb (length ts) (length s)) (omega (arith, w .planned .tiles))
 
   pub known-preview : p .tiles ≤ length s → _≡_ {A = Claimed} (record { number = accepted; tiles = p .tiles }) (previewOf n t s c k a)
-  known-preview h = rw (w .planned .tiles) (previewOf-done n t s c k a (known-fits h))
+  known-preview h = rw (w .planned .tiles) (ap (λ (x : After Claimed). x .answer) (claimOf-done n t s c k a (known-fits h)) ∙ claim-answer n t s c k a)
 
   levels : p .change .top ≡ p .change .size + (p .change .top - p .change .size)
   levels = omega (arith, w .planned .change .split .sizes)

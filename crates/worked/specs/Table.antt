@@ -12,7 +12,7 @@ use Rattle.quadtree.specs.Quadtree.{quadtree}
 use Rattle.list_check.specs.ListCheck.{listCheck}
 use Rattle.bed.specs.declared.Kind.the-variants.{Rows}
 use Rattle.bed.specs.Places.{rows, scanOf}
-use Rattle.bed.specs.Worked.{bedM, rowsM, wordsM}
+use Rattle.bed.specs.Worked.{bedM, rowsM, wordsM, slotsM}
 use Rattle.part.specs.Part.{partOf, sliceOf}
 use Rattle.scan.specs.declared.Fed.{Fed}
 use Rattle.scan.specs.FreshScan.{freshOf}
@@ -21,10 +21,6 @@ use Rattle.claim.specs.Claim.{claimOf}
 
 abbrev pub tilesM : List Tile
 tilesM = tile 0 1 5 ∷ tile 7 0 9 ∷ tile 8 0 9 ∷ tile 12 1 9 ∷ []
-
--- M in six slots, of which the last two hold anything
-abbrev pub slotsM : List ℕ
-slotsM = 69 ∷ 7177 ∷ 8201 ∷ 12361 ∷ 1 ∷ 1 ∷ []
 
 -- a fresh row scan of order n with m slots, fed once
 abbrev pub rowScan : ℕ → ℕ → List ℕ → After Fed

@@ -1,7 +1,10 @@
 -- The outcome's answer.
-use mathlib.Core.Path.{_∙_}
+use mathlib.Core.Path.{_∙_, ap}
 use borrow.Author.Needs.{needs}
-use Rattle.claim.proofs.Refusals.{previewOf-refused}
+use Rattle.refusal.specs.Checks.{After}
+use Rattle.claim.specs.declared.Claimed.{Claimed}
+use Rattle.claim.proofs.Refusals.{claimOf-refused}
+use Rattle.claim.proofs.PreviewLaws.{claim-answer}
 use Rattle.claim.proofs.Whole.{ends-refused, ends-fits, known-preview}
 use Rattle.claim.proofs.preview.Statement.{statement}
 use Rattle.claim.proofs.preview.Tie as tie
@@ -11,7 +14,8 @@ returns c =
     let a = c .before .before .before .before .before .before .args in
     let foresee = c .before .before .before .before .foresee in
     let ends = ends-refused (a .order) (a .tiles) (a .slots .now) (a .corner) (a .size) (a .account) (c .before .before .number .given .1) (foresee .ensures) in
-    c .refused .ensures ∙ previewOf-refused (a .order) (a .tiles) (a .slots .now) (a .corner) (a .size) (a .account) _ (ends .0) (ends .1)
+    let given = claimOf-refused (a .order) (a .tiles) (a .slots .now) (a .corner) (a .size) (a .account) _ (ends .0) (ends .1) in
+    c .refused .ensures ∙ (ap (λ (x : After Claimed). x .answer) given ∙ claim-answer (a .order) (a .tiles) (a .slots .now) (a .corner) (a .size) (a .account))
 
 returns-2 : tie.Need-returns-2
 returns-2 c =
