@@ -2,8 +2,8 @@
 
        bench/run [LOWEST ORDER [HIGHEST ORDER]]        6 and 10 unless given
 
-   No other way to build a list, to combine two or to write and read a file is timed in its own table before it has
-   given what the library gives. */
+   No other way to build a list, to combine two, to name a block or to write and read a file is timed in its own table
+   before it has given what the library gives. */
 #include "builds.h"
 #include "stack.h"
 #include "straight.h"
@@ -272,6 +272,34 @@ static void print(const struct table *table, struct bench *b, uint32_t lowest, u
     }
 }
 
+/* The table of lookups on a bed with one held pixel, in its north-western corner: there, beside it, and in the free
+   quarter of the bed that lies farthest from it. */
+static void lookups(uint32_t lowest, uint32_t highest)
+{
+    static const uint32_t word = 9;
+    struct timing ours, straight;
+    printf("\nLookups: on a bed of one tile, a pixel's. Nanoseconds for a call, the list's check included × the "
+           "library's time divided by that\nof straightforward C.\n\n"
+           "| order | the held pixel | a free pixel beside it | a free quarter of the bed |\n|---|---|---|---|\n");
+    for (uint32_t order = lowest; order <= highest; order++) {
+        const uint32_t places[] = {0, 1, (1u << order) - 1};
+        printf("| %u ", order);
+        for (size_t i = 0; i < sizeof places / sizeof *places; i++) {
+            uint32_t at = places[i];
+            kb_lookup_answer one = kb_lookup(order, 1, &word, 1, at, at / 2);
+            kb_lookup_answer other = straight_lookup(order, 1, &word, 1, at, at / 2);
+            if (one.account != other.account || one.corner != other.corner || one.size != other.size) {
+                fprintf(stderr, "bench: straightforward C names another block\n");
+                exit(1);
+            }
+            BOTH(ours, must(kb_lookup(order, 1, &word, 1, at, at / 2).number),
+                 straight, must(straight_lookup(order, 1, &word, 1, at, at / 2).number));
+            cell(&ours, &straight, 1);
+        }
+        printf("|\n");
+    }
+}
+
 typedef kb_write_answer write_call(uint32_t, size_t, const uint32_t *, size_t, uint8_t *, size_t);
 typedef kb_read_answer read_call(const uint8_t *, size_t, uint32_t *, size_t);
 
@@ -353,6 +381,7 @@ int main(int argc, char **argv)
         return 1;
     for (size_t i = 0; i < sizeof tables / sizeof *tables; i++)
         print(tables + i, &b, lowest, highest);
+    lookups(lowest, highest);
     rosters(&b, highest);
     return 0;
 }

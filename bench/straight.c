@@ -74,7 +74,7 @@ uint32_t straight_decode(uint32_t order, size_t tiles, const uint32_t *slots, si
 kb_lookup_answer straight_lookup(uint32_t order, size_t tiles, const uint32_t *slots, size_t slots_length,
                                  uint32_t column, uint32_t row)
 {
-    kb_lookup_answer answer = {straight_check(order, tiles, slots, slots_length), 0};
+    kb_lookup_answer answer = {straight_check(order, tiles, slots, slots_length), 0, 0, 0};
     if (answer.number)
         return answer;
     if (column >> order || row >> order) {
@@ -83,8 +83,21 @@ kb_lookup_answer straight_lookup(uint32_t order, size_t tiles, const uint32_t *s
     }
     uint32_t z = straight_morton(column, row);
     size_t at = find(tiles, slots, z);
-    if (at < tiles && corner_of(slots[at]) <= z)
+    if (at < tiles && corner_of(slots[at]) <= z) {
         answer.account = account_of(slots[at]);
+        answer.corner = corner_of(slots[at]);
+        answer.size = size_of(slots[at]);
+        return answer;
+    }
+    uint32_t from = at > 0 ? end_of(slots[at - 1]) : 0, upto = at < tiles ? corner_of(slots[at]) : area(order);
+    answer.corner = z;
+    for (uint32_t size = 1; size <= order; size++) {
+        uint32_t corner = z & ~(area(size) - 1);
+        if (corner < from || corner + area(size) > upto)
+            break;
+        answer.corner = corner;
+        answer.size = size;
+    }
     return answer;
 }
 

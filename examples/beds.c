@@ -1,6 +1,6 @@
-/* A host program for the library: scans a bed with some boards on it, claims a block, shows the bed on a panel, asks
-   who may place where and what lies in the reserved zones, archives the map and reads it back, and is refused
-   something.
+/* A host program for the library: scans a bed with some boards on it, claims a block, shows the bed on a panel, goes over
+   it with a head, asks who may place where and what lies in the reserved zones, archives the map and reads it back, and
+   is refused something.
 
        gcc -O2 -Iinclude examples/beds.c target/staticlib/libkingletbed.a -o target/beds
        target/beds [MAP FILE]        bed.map unless named; kbmap draws it */
@@ -63,16 +63,18 @@ static void feed_rows(kb_scan *scan, const uint8_t *raster)
     printf("Scanned %u pixels row by row: %zu tiles, at most %zu after a row.\n", scan->pixels, scan->tiles, most);
 }
 
-/* Claims the block if it is free: that no tile is inside would not be enough. What it costs is told ahead. */
+/* Claims the block if it is free: that no tile is inside would not be enough, but one lookup at its corner tells. What
+   it costs is told ahead. */
 static void claim(kb_scan *scan)
 {
     kb_block_answer block = kb_block(ORDER, CLAIM_COLUMN, CLAIM_ROW, CLAIM_SIZE);
     must(block.number, "the block");
-    kb_shown_answer shown = kb_scan_shown(scan, block.corner, block.size);
-    must(shown.number, "what the block shows");
+    kb_lookup_answer found = kb_scan_lookup(scan, CLAIM_COLUMN, CLAIM_ROW);
+    must(found.number, "the lookup at the block's corner");
+    int nobodys = found.account == 0 && found.size >= CLAIM_SIZE;
     printf("The block of 8 by 8 pixels at column %d, row %d is %s.\n", CLAIM_COLUMN, CLAIM_ROW,
-           shown.account == 0 ? "nobody's" : "held");
-    if (shown.account != 0)
+           nobodys ? "nobody's" : "held");
+    if (!nobodys)
         exit(1);
     kb_preview_answer preview = kb_scan_preview(scan, block.corner, block.size, CLAIM_ACCOUNT);
     must(preview.number, "the preview");
@@ -83,7 +85,8 @@ static void claim(kb_scan *scan)
 }
 
 /* The panel: 16 by 16 cells, each a block of 4 by 4 pixels. A cell under a larger tile has no tile inside and is held
-   all the same: drawn by the tiles of kb_scan_part it would look free; kb_scan_shown asks at its corner whose it is. */
+   all the same: drawn by the tiles of kb_scan_part it would look free. One lookup at its corner tells: where the block
+   that it names is as large as the cell, the cell has one account, and else it has not. */
 #define CELLS 16
 #define CELL_SIZE 2
 #define CELL_SIDE (SIDE / CELLS)
@@ -94,21 +97,37 @@ static void panel(const kb_scan *scan)
     printf("The bed, an account for each cell (. nobody's, + not all of one):\n");
     for (uint32_t row = 0; row < CELLS; row++) {
         for (uint32_t column = 0; column < CELLS; column++) {
-            kb_block_answer cell = kb_block(ORDER, column * CELL_SIDE, row * CELL_SIDE, CELL_SIZE);
-            must(cell.number, "a cell");
-            kb_shown_answer shown = kb_scan_shown(scan, cell.corner, cell.size);
-            must(shown.number, "what a cell shows");
-            if (shown.account == KB_NO_ACCOUNT)
+            kb_lookup_answer found = kb_scan_lookup(scan, column * CELL_SIDE, row * CELL_SIDE);
+            must(found.number, "the lookup at a cell's corner");
+            if (found.size < CELL_SIZE)
                 printf("  +");
-            else if (shown.account == 0)
+            else if (found.account == 0)
                 printf("  .");
             else
-                printf(" %2d", shown.account);
-            covered += shown.length == 0 && shown.account != 0;
+                printf(" %2d", found.account);
+            covered += found.size > CELL_SIZE && found.account != 0;
         }
         printf("\n");
     }
     printf("%d of the cells have no tile inside and are held all the same, by a larger tile over them.\n", covered);
+}
+
+/* The head: it goes over the bed row after row, to and fro, and asks whose ground is under it only where it leaves the
+   block that the last lookup named. */
+static void head(const kb_scan *scan)
+{
+    int asked = 0;
+    kb_lookup_answer found = {KB_POINT_OUTSIDE, 0, 0, 0}; /* nothing is known yet */
+    for (uint32_t row = 0; row < SIDE; row++)
+        for (uint32_t step = 0; step < SIDE; step++) {
+            uint32_t column = row % 2 == 0 ? step : SIDE - 1 - step;
+            if (!kb_lookup_has(found, column, row)) {
+                found = kb_scan_lookup(scan, column, row);
+                must(found.number, "the head's lookup");
+                asked++;
+            }
+        }
+    printf("A head that goes over all %d pixels, row after row, asks at %d of them.\n", PIXELS, asked);
 }
 
 static const char *class_of(uint32_t account) { return account <= 7 ? "staff" : account <= 47 ? "student" : "guest"; }
@@ -212,6 +231,7 @@ int main(int argc, char **argv)
     feed_rows(&scan, raster);
     claim(&scan);
     panel(&scan);
+    head(&scan);
     printf("Who may place where?\n");
     ask(&scan, 21, CLAIM_COLUMN + 2, CLAIM_ROW + 2);
     ask(&scan, 18, CLAIM_COLUMN + 2, CLAIM_ROW + 2);

@@ -46,7 +46,7 @@
 #include <stddef.h>
 #include <stdint.h>
 
-#define KB_VERSION "0.5.0"
+#define KB_VERSION "0.6.0"
 
 /* An answer that is dropped is a mistake, of which the compiler warns. */
 #if (defined(__cplusplus) && __cplusplus >= 201703L) || (defined(__STDC_VERSION__) && __STDC_VERSION__ >= 202311L)
@@ -132,7 +132,7 @@ typedef struct { uint32_t number; uint32_t column; uint32_t row; } kb_point_answ
 typedef struct { uint32_t number; uint32_t kind; uint32_t order; uint32_t pixels; size_t tiles; } kb_fresh_answer;
 typedef struct { uint32_t number; size_t taken; uint32_t kind; uint32_t order; uint32_t pixels; size_t tiles; }
     kb_feed_answer;
-typedef struct { uint32_t number; uint8_t account; } kb_lookup_answer;
+typedef struct { uint32_t number; uint8_t account; uint32_t corner; uint32_t size; } kb_lookup_answer;
 typedef struct { uint32_t number; size_t position; size_t length; } kb_part_answer;
 typedef struct { uint32_t number; const uint32_t *tiles; size_t length; } kb_part_tiles_answer;
 typedef struct { uint32_t number; uint8_t yes; } kb_rights_answer;
@@ -200,8 +200,12 @@ KB_MUST_USE kb_feed_answer kb_feed(uint32_t kind, uint32_t order, uint32_t pixel
 KB_MUST_USE uint32_t kb_decode(uint32_t order, size_t tiles, const uint32_t *slots, size_t slots_length,
                                uint8_t *raster, size_t raster_length);
 
-/* The account at a pixel, 0 for nobody's.
-     refuses   the list checks, KB_POINT_OUTSIDE; the account is then 0 as well, and says nothing of the pixel
+/* The account at a pixel, 0 for nobody's, and the largest block with the pixel in it that has this account on all its
+   pixels: for somebody's pixel its tile, for nobody's the largest block that is wholly free. The answer is that of every
+   pixel of the block and of no other: a head that stays inside of it need not ask again while the map stays as it is
+   (kb_lookup_has). An unscanned pixel counts as nobody's.
+     refuses   the list checks, KB_POINT_OUTSIDE; account, corner and size are then 0 as well, and say nothing: a free
+               pixel in the corner of a bed has these too, so look at the number first
      storage   nothing is written */
 KB_MUST_USE kb_lookup_answer kb_lookup(uint32_t order, size_t tiles, const uint32_t *slots, size_t slots_length,
                                        uint32_t column, uint32_t row);
@@ -209,8 +213,9 @@ KB_MUST_USE kb_lookup_answer kb_lookup(uint32_t order, size_t tiles, const uint3
 /* The tiles that lie wholly inside a block: `length` tiles of the list from `position` on. The position is the number
    of tiles with a smaller corner than the block's. kb_part_tiles gives a pointer instead.
    A block under a larger tile has no tile inside: an EMPTY PART MAY BE HELD GROUND, and a panel that draws the part's
-   tiles shows it as free. Where the part is empty, ask kb_lookup at the block's corner (kb_point has its column and
-   row): the whole block has that account. kb_scan_shown does so.
+   tiles shows it as free. One kb_lookup at the block's corner (kb_point has its column and row) tells: if it names a
+   block of this size or a larger one, the whole block has the account answered, and else it has not one account.
+   kb_scan_shown does so.
      refuses   the list checks, KB_BLOCK_INVALID
      storage   nothing is written */
 KB_MUST_USE kb_part_answer kb_part(uint32_t order, size_t tiles, const uint32_t *slots, size_t slots_length,
@@ -287,6 +292,14 @@ KB_MUST_USE kb_combine_answer kb_combine(uint32_t choice,
                                          uint32_t order1, size_t tiles1, const uint32_t *slots1, size_t slots1_length,
                                          uint32_t order2, size_t tiles2, const uint32_t *slots2, size_t slots2_length,
                                          uint32_t *out, size_t out_length);
+
+/* 1 if a pixel lies in the block that a lookup named, so that kb_lookup there would answer the same, while the map stays
+   as it is; else 0. A refused lookup has none. Numbers of 64 bits are taken, and none is cut. */
+KB_MUST_USE static inline uint8_t kb_lookup_has(kb_lookup_answer found, uint64_t column, uint64_t row)
+{
+    kb_block_answer block = kb_block(KB_HIGHEST_ORDER, kb_number_word(column), kb_number_word(row), found.size);
+    return found.number == KB_ACCEPTED && block.number == KB_ACCEPTED && block.corner == found.corner;
+}
 
 /* The same as kb_part, with the part as a pointer into your own slots; refused, it is the empty part at their start. */
 KB_MUST_USE static inline kb_part_tiles_answer kb_part_tiles(uint32_t order, size_t tiles,
@@ -428,15 +441,11 @@ KB_MUST_USE static inline kb_shown_answer kb_scan_shown(const kb_scan *scan, uin
 {
     kb_part_tiles_answer part = kb_scan_part(scan, corner, size);
     kb_shown_answer shown = {part.number, part.tiles, part.length, KB_NO_ACCOUNT};
-    if (part.number != KB_ACCEPTED)
-        return shown;
-    if (part.length == 0) {
+    if (part.number == KB_ACCEPTED) { /* so that the corner is a pixel's, and the lookup there is accepted */
         kb_point_answer at = kb_point(scan->order, kb_number_word(corner));
         kb_lookup_answer found = kb_scan_lookup(scan, at.column, at.row);
-        shown.number = at.number != KB_ACCEPTED ? at.number : found.number;
-        shown.account = shown.number == KB_ACCEPTED ? found.account : KB_NO_ACCOUNT;
-    } else if (kb_tile_size(part.tiles[0]) == size) {
-        shown.account = kb_tile_account(part.tiles[0]);
+        if (found.number == KB_ACCEPTED && size <= found.size)
+            shown.account = found.account;
     }
     return shown;
 }

@@ -1,10 +1,11 @@
 //! A panel that draws a bed one block of 2 by 2 pixels at a time, and the trap in it: a block under a larger tile has
-//! no tile inside, so that a panel which draws the block's part shows held ground as free. What the block shows is what
-//! to draw.
+//! no tile inside, so that a panel which draws the block's part shows held ground as free. One lookup at the block's
+//! corner tells: where it finds a block as large as this one, this one has one account, and else its tiles are inside.
+//! `Bed::shown` gives the same as tiles.
 //!
 //!     cargo run --example panel
 
-use kingletbed::{Bed, Block, Kind, Pixel, Refusal, Tile};
+use kingletbed::{Account, Bed, Block, Kind, Pixel, Refusal, Tile};
 use std::error::Error;
 use std::fmt::Write;
 
@@ -33,14 +34,20 @@ pub fn panel(text: &mut String) -> Result<(), Box<dyn Error>> {
     let (mut wrong, mut right) = (Canvas::of(&bed), Canvas::of(&bed));
     for (column, row) in (0..4).flat_map(|row| (0..4).map(move |column| (2 * column, 2 * row))) {
         let block = Block::around(bed.order(), Pixel { column, row }, 1)?;
-        for &word in bed.part(block)? {
-            wrong.paint(Tile::of_word(word))?;
+        let inside = bed.part(block)?.iter().map(|&word| Tile::of_word(word));
+        for tile in inside.clone() {
+            wrong.paint(tile.block(), tile.account())?;
         }
-        for tile in bed.shown(block)? {
-            right.paint(tile)?;
+        let found = bed.lookup(block.pixel()?)?;
+        if found.block.size >= block.size {
+            right.paint(block, found.account)?;
+        } else {
+            for tile in inside {
+                right.paint(tile.block(), tile.account())?;
+            }
         }
     }
-    writeln!(text, "by parts    as shown")?;
+    writeln!(text, "by parts    by lookups")?;
     for (wrong, right) in wrong.lines().zip(right.lines()) {
         writeln!(text, "{wrong}    {right}")?;
     }
@@ -58,10 +65,11 @@ impl Canvas {
         Canvas { side: bed.side() as usize, pixels: vec!['.'; bed.pixels() as usize] }
     }
 
-    fn paint(&mut self, tile: Tile) -> Result<(), Refusal> {
-        let (at, side) = (tile.pixel()?, tile.side()? as usize);
+    fn paint(&mut self, block: Block, account: Account) -> Result<(), Refusal> {
+        let (at, side) = (block.pixel()?, block.side()? as usize);
+        let digit = if account == Account::NOBODY { '.' } else { char::from(b'0' + account.0) };
         for row in self.pixels.chunks_mut(self.side).skip(at.row as usize).take(side) {
-            row[at.column as usize..][..side].fill(char::from(b'0' + tile.account().0));
+            row[at.column as usize..][..side].fill(digit);
         }
         Ok(())
     }

@@ -44,7 +44,7 @@ pub fn shift(text: &mut String) -> Result<(), Box<dyn Error>> {
     // The bed that was claimed on is the bed that is asked: there is no older one that could still say nobody.
     for asking in [student, Account(9), Account(3), Account(48)] {
         let may = if bed.rights(at, asking)? { "may" } else { "may not" };
-        writeln!(text, "{asking} {may} place on ground of {}", bed.lookup(at)?)?;
+        writeln!(text, "{asking} {may} place on ground of {}", bed.lookup(at)?.account)?;
     }
 
     // To the archive, and back to a bed of its own.

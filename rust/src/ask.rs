@@ -1,7 +1,7 @@
 //! What may be asked of a bed.
 
 use crate::bed::pixels_of;
-use crate::{raw, Account, Bed, Block, Kind, Pixel, Refusal, Shown, Tile, Tiles};
+use crate::{raw, Account, Bed, Block, Found, Kind, Pixel, Refusal, Shown, Tile, Tiles};
 
 // No call here can panic, whatever the slots give: the part of them that an answer names is taken by `get`.
 impl<S: AsRef<[u32]>> Bed<S> {
@@ -121,20 +121,26 @@ impl<S: AsRef<[u32]>> Bed<S> {
         Tiles::of_words(self.words())
     }
 
-    /// The account at a pixel.
+    /// The account at a pixel, and the largest block with the pixel in it that is all of this account: the tile, or
+    /// for nobody's pixel the largest block that is wholly nobody's. Just the pixels of that block are found with this
+    /// answer: a head that stays inside of it need not ask again while the bed stays as it is.
     ///
     /// ```
-    /// use kingletbed::{Account, Bed, Pixel, Refusal};
-    /// let bed = Bed::from_slots(2, 4, [69, 7177, 8201, 12361])?;
-    /// assert_eq!(bed.lookup(Pixel { column: 0, row: 2 }), Ok(Account(9)));
-    /// assert_eq!(bed.lookup(Pixel { column: 1, row: 2 }), Ok(Account::NOBODY));
+    /// use kingletbed::{Account, Bed, Block, Found, Pixel, Refusal};
+    /// let bed = Bed::from_slots(2, 3, [69, 8201, 12361])?; // the block NE is free
+    /// let found = bed.lookup(Pixel { column: 2, row: 0 })?;
+    /// assert_eq!(found, Found { account: Account::NOBODY, block: Block { corner: 4, size: 1 } });
+    /// assert!(found.block.has(Pixel { column: 3, row: 1 }));
+    /// assert_eq!(bed.lookup(Pixel { column: 3, row: 1 })?, found);
+    /// assert_eq!(bed.lookup(Pixel { column: 0, row: 2 })?.account, Account(9));
     /// assert_eq!(bed.lookup(Pixel { column: 4, row: 0 }), Err(Refusal::PointOutside));
     /// # Ok::<(), kingletbed::Refusal>(())
     /// ```
-    pub fn lookup(&self, at: Pixel) -> Result<Account, Refusal> {
+    pub fn lookup(&self, at: Pixel) -> Result<Found, Refusal> {
         let answer = raw::lookup(self.order, self.tiles, self.slots(), at.column, at.row);
         Refusal::outcome(answer.number)?;
-        Ok(Account(answer.account))
+        let block = Block { corner: answer.corner, size: answer.size };
+        Ok(Found { account: Account(answer.account), block })
     }
 
     /// Whether an account may place at a pixel: on its own always, on nobody's unless it is a guest, on another's only
@@ -186,7 +192,8 @@ impl<S: AsRef<[u32]>> Bed<S> {
     /// let bed = Bed::from_slots(2, 4, [69, 7177, 8201, 12361])?;
     /// assert_eq!(bed.part(Block { corner: 4, size: 1 })?, [7177]);
     /// assert_eq!(bed.part(Block { corner: 12, size: 0 })?, []);
-    /// assert_eq!(bed.lookup(Pixel { column: 2, row: 2 })?, Account(9)); // corner 12
+    /// let found = bed.lookup(Pixel { column: 2, row: 2 })?; // corner 12
+    /// assert_eq!((found.account, found.block.size), (Account(9), 1));
     /// # Ok::<(), kingletbed::Refusal>(())
     /// ```
     pub fn part(&self, block: Block) -> Result<&[u32], Refusal> {
@@ -212,17 +219,12 @@ impl<S: AsRef<[u32]>> Bed<S> {
     /// ```
     pub fn shown(&self, block: Block) -> Result<Shown<'_>, Refusal> {
         let inside = self.part(block)?;
-        let over = if inside.is_empty() { self.over(block)? } else { None };
-        Ok(Shown::new(Tiles::of_words(inside), over))
-    }
-
-    /// The tile over a block that has none inside, cut to it. Blocks lie apart or one in the other, so that a tile over
-    /// the corner is over all of the block.
-    fn over(&self, block: Block) -> Result<Option<Tile>, Refusal> {
-        match self.lookup(Pixel::of_morton(self.order, block.corner)?)? {
-            Account::NOBODY => Ok(None),
-            account => Tile::over(self.order, block, account).map(Some),
+        let found = self.lookup(Pixel::of_morton(self.order, block.corner)?)?;
+        if found.block.size > block.size && found.account != Account::NOBODY {
+            let over = Tile::over(self.order, block, found.account)?;
+            return Ok(Shown::new(Tiles::of_words(&[]), Some(over)));
         }
+        Ok(Shown::new(Tiles::of_words(inside), None))
     }
 
     /// Writes the account of each pixel, row after row. The raster has [`pixels`](Bed::pixels) bytes.

@@ -171,7 +171,7 @@ impl<S: AsRef<[u32]> + AsMut<[u32]>> Bed<S> {
     /// use kingletbed::{Account, Bed, Block, Pixel};
     /// let mut bed = Bed::from_slots(2, 4, [69, 7177, 8201, 12361, 0, 0])?;
     /// bed.claim(Block { corner: 4, size: 1 }, Account(9))?;
-    /// assert_eq!(bed.lookup(Pixel { column: 2, row: 0 })?, Account(9));
+    /// assert_eq!(bed.lookup(Pixel { column: 2, row: 0 })?.account, Account(9));
     /// assert_eq!(bed.words(), [69, 4169, 8201, 12361]);
     /// # Ok::<(), kingletbed::Refusal>(())
     /// ```

@@ -1,6 +1,6 @@
-//! Pixels and blocks. Their numbers come from the library.
+//! Pixels and blocks, and what a lookup finds. Their numbers come from the library.
 
-use crate::{raw, Refusal, HIGHEST_ORDER};
+use crate::{raw, Account, Refusal, HIGHEST_ORDER};
 
 /// A pixel of a bed; column and row count from 0 at the north-west.
 ///
@@ -92,6 +92,20 @@ impl Block {
         Block { corner: 0, size: order }
     }
 
+    /// Whether the block has a pixel in it. One that is no block, or off the largest bed, has none.
+    ///
+    /// ```
+    /// use kingletbed::{Block, Pixel};
+    /// let block = Block { corner: 12, size: 1 }; // columns 2 and 3 of rows 2 and 3
+    /// assert!(block.has(Pixel { column: 3, row: 2 }));
+    /// assert!(!block.has(Pixel { column: 4, row: 2 }));
+    /// assert!(!Block { corner: 13, size: 1 }.has(Pixel { column: 3, row: 2 }));
+    /// ```
+    #[must_use]
+    pub fn has(self, pixel: Pixel) -> bool {
+        Block::around(HIGHEST_ORDER, pixel, self.size) == Ok(self)
+    }
+
     /// The block's north-west pixel.
     ///
     /// ```
@@ -114,4 +128,22 @@ impl Block {
         Refusal::outcome(answer.number)?;
         Ok(answer.side)
     }
+}
+
+/// What a lookup finds at a pixel, from [`Bed::lookup`](crate::Bed::lookup).
+///
+/// ```
+/// use kingletbed::{Account, Bed, Block, Found, Pixel};
+/// let bed = Bed::from_slots(2, 1, [71])?;
+/// let found: Found = bed.lookup(Pixel { column: 1, row: 0 })?;
+/// assert_eq!(found, Found { account: Account(7), block: Block { corner: 0, size: 1 } });
+/// # Ok::<(), kingletbed::Refusal>(())
+/// ```
+#[derive(Clone, Copy, Debug, PartialEq, Eq, Hash)]
+pub struct Found {
+    /// Whose the pixel is.
+    pub account: Account,
+    /// The largest block with the pixel in it that is all of this account: the pixel's tile, or for nobody's pixel the
+    /// largest block that is wholly nobody's.
+    pub block: Block,
 }

@@ -8,9 +8,9 @@
 /// let zones = Bed::from_slots(1, 1, [3075])?; // the pixel SE is account 3's
 /// let southeast = Pixel { column: 1, row: 1 };
 /// let inside = Bed::combine(Choice::Inside, &bed, &zones, [0; 4])?;
-/// assert_eq!(inside.lookup(southeast)?, Account(7));
+/// assert_eq!(inside.lookup(southeast)?.account, Account(7));
 /// let outside = Bed::combine(Choice::Outside, &bed, &zones, [0; 4])?;
-/// assert_eq!(outside.lookup(southeast)?, Account::NOBODY);
+/// assert_eq!(outside.lookup(southeast)?.account, Account::NOBODY);
 /// # Ok::<(), kingletbed::Refusal>(())
 /// ```
 #[derive(Clone, Copy, Debug, PartialEq, Eq, Hash)]

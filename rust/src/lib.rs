@@ -13,10 +13,10 @@
 //! let mut bed = Bed::fresh(Kind::Rows, 2, [0; 16])?;
 //! bed.feed(&[5, 5, 0, 0, 5, 5, 0, 9, 9, 0, 9, 9, 0, 0, 9, 9])?;
 //! assert_eq!(bed.tiles().len(), 4);
-//! assert_eq!(bed.lookup(Pixel { column: 3, row: 1 })?, Account(9));
+//! assert_eq!(bed.lookup(Pixel { column: 3, row: 1 })?.account, Account(9));
 //!
 //! bed.claim(Block { corner: 4, size: 1 }, Account(9))?;
-//! assert_eq!(bed.lookup(Pixel { column: 2, row: 0 })?, Account(9));
+//! assert_eq!(bed.lookup(Pixel { column: 2, row: 0 })?.account, Account(9));
 //! assert!(!bed.rights(Pixel { column: 2, row: 0 }, Account(48))?);
 //! # Ok(())
 //! # }
@@ -48,7 +48,7 @@ mod tile;
 
 pub use account::Account;
 pub use bed::Bed;
-pub use block::{Block, Pixel};
+pub use block::{Block, Found, Pixel};
 pub use choice::Choice;
 pub use refusal::Refusal;
 pub use scan::{Kind, Stopped};

@@ -107,11 +107,14 @@ pub fn decode(order: u32, tiles: usize, slots: &[u32], raster: &mut [u8]) -> u32
     unsafe { kb_decode(order, tiles, slots.as_ptr(), slots.len(), raster.as_mut_ptr(), raster.len()) }
 }
 
-/// `kb_lookup`. The account at a pixel.
+/// `kb_lookup`. The account at a pixel, and the largest block with the pixel that is all of this account.
 ///
 /// ```
 /// use kingletbed::raw;
-/// assert_eq!(raw::lookup(1, 1, &[71], 1, 0).account, 7);
+/// let held = raw::lookup(2, 1, &[71], 1, 0);
+/// assert_eq!((held.account, held.corner, held.size), (7, 0, 1));
+/// let free = raw::lookup(2, 1, &[71], 3, 0);
+/// assert_eq!((free.account, free.corner, free.size), (0, 4, 1));
 /// ```
 #[must_use]
 pub fn lookup(order: u32, tiles: usize, slots: &[u32], column: u32, row: u32) -> Found {
@@ -324,7 +327,8 @@ mod tests {
             assert_eq!(kb_feed(1, 1, 2, 0, null_mut(), 0, null_mut(), 0), fed(0, 0, 2));
             assert_eq!(kb_feed(1, 1, 2, 0, null_mut(), 0, [0, 5].as_ptr(), 2), fed(25, 1, 3));
             assert_eq!(kb_decode(0, 0, null_mut(), 0, null_mut(), 0), 33);
-            assert_eq!(kb_lookup(10, 0, null_mut(), 0, 1023, 1023), Found { number: 0, account: 0 });
+            let found = |corner, size| Found { number: 0, account: 0, corner, size };
+            assert_eq!(kb_lookup(10, 0, null_mut(), 0, 1023, 1023), found(0, 10));
             assert_eq!(kb_part(10, 0, null_mut(), 0, 4, 1), Part { number: 0, position: 0, length: 0 });
             assert_eq!(kb_rights(0, 0, null_mut(), 0, 0, 0, 8), Right { number: 0, yes: 1 });
             assert_eq!(kb_claim(0, 0, null_mut(), 0, 0, 0, 8), Claimed { number: 25, tiles: 0 });

@@ -9,11 +9,11 @@ use core::fmt;
 /// use kingletbed::{Account, Bed, Kind, Pixel};
 /// let mut rows = Bed::fresh(Kind::Rows, 2, [0; 16])?;
 /// rows.feed(&[0, 0, 9])?;
-/// assert_eq!(rows.lookup(Pixel { column: 2, row: 0 })?, Account(9));
+/// assert_eq!(rows.lookup(Pixel { column: 2, row: 0 })?.account, Account(9));
 ///
 /// let mut morton = Bed::fresh(Kind::Morton, 2, [0; 16])?;
 /// morton.feed(&[0, 0, 9])?;
-/// assert_eq!(morton.lookup(Pixel { column: 0, row: 1 })?, Account(9));
+/// assert_eq!(morton.lookup(Pixel { column: 0, row: 1 })?.account, Account(9));
 /// # Ok::<(), kingletbed::Refusal>(())
 /// ```
 #[derive(Clone, Copy, Debug, PartialEq, Eq, Hash)]

@@ -1,6 +1,6 @@
 //! What a bed promises beyond the comparison: it cannot go stale, any slots will do, and slots that lie do no harm.
 
-use kingletbed::{raw, Account, Bed, Block, Choice, Kind, Pixel, Refusal};
+use kingletbed::{raw, Account, Bed, Block, Choice, Found, Kind, Pixel, Refusal};
 use std::cell::Cell;
 use std::fmt::Debug;
 
@@ -18,13 +18,13 @@ fn no_stale_bed() -> Result<(), Refusal> {
     let at = Pixel { column: 1, row: 1 };
     let mut bed = Bed::fresh(Kind::Rows, 1, [0; 4])?;
     bed.feed(&[8, 0, 0, 0])?;
-    assert_eq!((bed.lookup(at)?, bed.rights(at, student)?), (Account::NOBODY, true));
+    assert_eq!((bed.lookup(at)?.account, bed.rights(at, student)?), (Account::NOBODY, true));
     bed.claim(Block { corner: 3, size: 0 }, other)?;
-    assert_eq!((bed.lookup(at)?, bed.rights(at, student)?), (other, false));
+    assert_eq!((bed.lookup(at)?.account, bed.rights(at, student)?), (other, false));
     // The raw calls with the count of before say otherwise, which is why a bed keeps its count to itself.
     assert_eq!((raw::lookup(1, 1, bed.slots(), 1, 1).account, raw::rights(1, 1, bed.slots(), 1, 1, 8).yes), (0, 1));
     bed.release(Block::whole(1))?;
-    assert_eq!(bed.lookup(at)?, Account::NOBODY);
+    assert_eq!(bed.lookup(at)?, Found { account: Account::NOBODY, block: Block::whole(1) });
     assert_eq!(bed.words(), []);
     Ok(())
 }

@@ -3,6 +3,8 @@
 
 #![allow(dead_code)]
 
+#[path = "../examples/head.rs"]
+mod head;
 #[path = "../examples/panel.rs"]
 mod panel;
 #[path = "../examples/shift.rs"]
@@ -14,6 +16,11 @@ fn text(example: fn(&mut String) -> Result<(), Box<dyn std::error::Error>>) -> S
     let mut text = String::new();
     example(&mut text).expect("nothing of it is refused");
     text
+}
+
+#[test]
+fn head_prints() {
+    assert_eq!(text(head::head), include_str!("../examples/head.txt"));
 }
 
 #[test]

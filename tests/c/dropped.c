@@ -1,9 +1,9 @@
 /* Every call with its answer dropped: a warning each. */
 #include "kingletbed.h"
 
-void drop(kb_scan *scan, uint32_t *slots, uint32_t *out, uint8_t *bytes);
+void drop(kb_scan *scan, kb_lookup_answer found, uint32_t *slots, uint32_t *out, uint8_t *bytes);
 
-void drop(kb_scan *scan, uint32_t *slots, uint32_t *out, uint8_t *bytes)
+void drop(kb_scan *scan, kb_lookup_answer found, uint32_t *slots, uint32_t *out, uint8_t *bytes)
 {
     kb_account_byte(0);
     kb_number_word(0);
@@ -19,6 +19,7 @@ void drop(kb_scan *scan, uint32_t *slots, uint32_t *out, uint8_t *bytes)
     kb_feed(KB_ROWS, 0, 0, 0, slots, 1, bytes, 1);
     kb_decode(0, 0, slots, 1, bytes, 1);
     kb_lookup(0, 0, slots, 1, 0, 0);
+    kb_lookup_has(found, 0, 0);
     kb_part(0, 0, slots, 1, 0, 0);
     kb_part_tiles(0, 0, slots, 1, 0, 0);
     kb_rights(0, 0, slots, 1, 0, 0, 1);

@@ -24,6 +24,7 @@ int main(void)
     test_accounts();
     test_wide();
     test_file();
+    test_lookup();
     test_shown();
     test_many_claims();
     test_combine();

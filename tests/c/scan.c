@@ -193,6 +193,56 @@ void test_file(void)
     CHECK(kb_scan_feed(&again, bed_m, 1).number == KB_SCAN_FULL && again.tiles == 4);
 }
 
+/* Whether two lookups answered the same. */
+static int alike(kb_lookup_answer one, kb_lookup_answer other)
+{
+    return one.number == other.number && one.account == other.account && one.corner == other.corner
+           && one.size == other.size;
+}
+
+static int finds(const kb_scan *scan, uint32_t column, uint32_t row, uint8_t account, uint32_t corner, uint32_t size)
+{
+    kb_lookup_answer named = {KB_ACCEPTED, account, corner, size};
+    return alike(kb_scan_lookup(scan, column, row), named);
+}
+
+/* The block that each pixel's lookup names has just the pixels that look up to the same answer. */
+static void finds_alike(const kb_scan *scan)
+{
+    uint32_t side = kb_extent(scan->order).side;
+    for (uint32_t pixel = 0; pixel < side * side; pixel++) {
+        kb_lookup_answer found = kb_scan_lookup(scan, pixel % side, pixel / side);
+        CHECK(found.number == KB_ACCEPTED && found.corner <= kb_morton(scan->order, pixel % side, pixel / side).morton);
+        for (uint32_t other = 0; other < side * side; other++)
+            CHECK(kb_lookup_has(found, other % side, other / side)
+                  == alike(kb_scan_lookup(scan, other % side, other / side), found));
+        CHECK(!kb_lookup_has(found, side, pixel / side) && !kb_lookup_has(found, UINT64_C(1) << 32, pixel / side));
+    }
+}
+
+void test_lookup(void)
+{
+    uint32_t slots[64];
+    kb_scan scan = NO_SCAN;
+    CHECK(finds(&scan, 0, 0, 0, 0, 0));
+    scan_bed_m(&scan, slots, 64);
+    CHECK(finds(&scan, 1, 1, 5, 0, 1) && finds(&scan, 3, 1, 9, 7, 0) && finds(&scan, 3, 2, 9, 12, 1));
+    CHECK(finds(&scan, 2, 0, 0, 4, 0));
+    finds_alike(&scan);
+    CHECK(kb_scan_claim(&scan, 7, 0, 0) == KB_ACCEPTED && finds(&scan, 2, 0, 0, 4, 1));
+    finds_alike(&scan);
+    CHECK(kb_scan_claim(&scan, 0, 2, 0) == KB_ACCEPTED && finds(&scan, 2, 0, 0, 0, 2));
+    finds_alike(&scan);
+
+    kb_lookup_answer refused = kb_scan_lookup(&scan, 4, 0);
+    CHECK(refused.number == KB_POINT_OUTSIDE && refused.account == 0 && refused.corner == 0 && refused.size == 0);
+    CHECK(!kb_lookup_has(refused, 0, 0));
+    slots[0] = 0;
+    scan.tiles = 1;
+    refused = kb_scan_lookup(&scan, 3, 3);
+    CHECK(refused.number == KB_ACCOUNT_ZERO && refused.account == 0 && refused.corner == 0 && refused.size == 0);
+}
+
 /* Each block of a bed shows what its pixels are. */
 static void shows(const kb_scan *scan)
 {

@@ -32,6 +32,7 @@ void test_preview(void);
 void test_accounts(void);
 void test_wide(void);
 void test_file(void);
+void test_lookup(void);
 void test_shown(void);
 void test_many_claims(void);
 void test_combine(void);

@@ -1,16 +1,16 @@
 -- What an accepted combine leaves.
 --     third-map          by any rule that makes accounts: it is the third map of two maps of one order
 --     third-map-choice   by the rule of a choice: it is the one that document 02 asks for
-use mathlib.Core.Path.{_≡_, refl, ap, _∙_}
+use mathlib.Core.Path.{_≡_, refl, ap, sym, _∙_}
 use mathlib.Core.List.{List, map}
-use Prim.Native.Nat.{ℕ, zero, suc, _-_, _^_, _≤_, _<_}
+use Prim.Native.Nat.{ℕ, _-_, _^_, _≤_, _<_}
 use native.Mathlib.Omega.{arith}
 use lib.ListN.{length, take, replicate, length-map}
 use lib.Seq.{drop-at}
 use Rattle.basics.proofs.Tests.{test-leb}
 use Rattle.refusal.specs.Refusal.{accepted}
-use Rattle.refusal.specs.Checks.{unless, After}
-use Rattle.refusal.proofs.CheckLaws.{must-inv, else-inv, unless-on}
+use Rattle.refusal.specs.Checks.{After}
+use Rattle.refusal.proofs.CheckLaws.{must-inv, else-inv, unless-on, unless-number}
 use Rattle.tile.specs.Tile.{Tile, wordOf, highestOrder, highestAccount}
 use Rattle.tile.specs.Slots.{tilesIn, filled}
 use Rattle.tile.proofs.TileLaws.{Packable}
@@ -27,12 +27,6 @@ use Rattle.combine.specs.declared.Combined.{Combined}
 use Rattle.combine.specs.Combine.{thirdTiles, mapsCheck, combineRefusal, combineBy, combineOf}
 use Rattle.combine.specs.ThirdMap.{ThirdMap}
 use Rattle.combine.proofs.CombineLaws.{maps-passed}
-
--- an accepted answer is of no refusal
-unless-accepted : (r : ℕ) (out : List ℕ) (y : After Combined) → unless r (λ number. record { answer = record { number = number; tiles = 0 }; storage = out }) y .answer .number ≡ accepted → r ≡ accepted
-unfolding unless
-unless-accepted zero out y e = refl
-unless-accepted (suc r) out y e = e
 
 module _ {rule : ℕ → ℕ → ℕ} (makes : MakesAccounts rule) (n t : ℕ) (s : List ℕ) (u : ℕ) (w : List ℕ) where
   abbrev ts : List Tile
@@ -65,7 +59,7 @@ pub third-map : (rule : ℕ → ℕ → ℕ) → MakesAccounts rule → (n t : �
     (n ≡ m) × ThirdMap rule n t s u w out (combineBy rule n t s m u w out)
 unfolding combineBy combineRefusal
 third-map rule makes n t s m u w out e =
-    let r = unless-accepted (combineRefusal rule n t s m u w out) out _ e in
+    let r = sym (unless-number (λ (a : After Combined). a .answer .number) (combineRefusal rule n t s m u w out) (λ x. refl) refl) ∙ e in
     let p = else-inv (mapsCheck n t s m u w) _ r in
     let q = maps-passed n t s m u w (p .0) in
     let h = must-inv (test-leb (length (thirdTiles rule n t s u w)) (length out)) (omega arith) (p .1) .0 in

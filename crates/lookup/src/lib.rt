@@ -1,18 +1,23 @@
-// Lookup: the account at a column and a row, by binary search.
+// Lookup: the account at a column and a row and the largest block around it, by one binary search. The tiles on either
+// side of the place found bound the free stretch of a nobody's pixel.
 ghost use mathlib.Core.Path.{_≡_};
-ghost use Prim.Native.Nat.{ℕ, _^_, _<_, _≤_};
+ghost use Prim.Native.Nat.{_^_, _<_, _≤_};
 ghost use lib.ListN.{length};
-ghost use Rattle.tile.specs.Tile.{highestOrder};
+ghost use Rattle.basics.specs.Test.{Test};
+ghost use Rattle.tile.specs.Tile.{tileOf, highestOrder};
 ghost use Rattle.tile.specs.Slots.{tilesIn};
-ghost use Rattle.quadtree.specs.Raster.{accountAt};
 ghost use Rattle.quadtree.specs.Valid.{Valid};
-ghost use Rattle.lookup.specs.Lookup.{lookupCheck, lookupOf};
+ghost use Rattle.lookup.specs.Block.{blockAt};
+ghost use Rattle.lookup.specs.Lookup.{lookupCheck, foundOf, lookupOf};
+ghost use Rattle.lookup.specs.Stretch.{stretchFrom, stretchUpto, Lies, Widest};
 
-// Lookup's answer.
+// Lookup's answer: the block that has the pixel, and its account.
 #[repr(C)]
 pub struct Found {
     pub number: u32,
     pub account: u8,
+    pub corner: u32,
+    pub size: u32,
 }
 
 // The checks in their order: those of the list, then 31.
@@ -26,34 +31,99 @@ fn lookup_check(order: u32, tiles: usize, slots: &[u32], column: u32, row: u32) 
     checks::point(order, column, row)
 }
 
-// The account that a valid list shows at the Morton number z: only the last tile that starts by z can cover it.
-pub fn account_at(tiles: usize, slots: &[u32], z: u32) -> u8
-    requires { ⌜ (z < 4 ^ highestOrder) × (tiles ≤ length (now slots))
-        × ((n : ℕ) × Valid n (tilesIn tiles (now slots))) ⌝ }
-    ensures { λ r. ⌜ r ≡ accountAt (tilesIn tiles (now (slots .entry))) z ⌝ }
+// The answer that names a tile.
+fn tile_found(word: u32) -> Found
+    ensures { λ r. ⌜ r ≡ foundOf (tileOf word) ⌝ }
 {
-    let started = list_search::ahead(slots, tiles, z + 1);
-    if started == 0 {
-        return 0;
+    Found {
+        number: refusal::ACCEPTED,
+        account: tile::account(word),
+        corner: tile::corner(word),
+        size: tile::size(word),
     }
-    let word = slots[started - 1];
-    if tile::stop(word) <= z {
-        return 0;
-    }
-    tile::account(word)
 }
 
-// The offered call: the account at a column and a row, 0 for nobody; refused, the first refusal and account 0.
+// Where the tile ahead of a place in the list stops: a free stretch there starts with it.
+fn stretch_from(slots: &[u32], place: usize) -> u32
+    requires { ⌜ place ≤ length (now slots) ⌝ }
+    ensures { λ r. ⌜ r ≡ stretchFrom (now (slots .entry)) place ⌝ }
+{
+    if place == 0 {
+        return 0;
+    }
+    tile::stop(slots[place - 1])
+}
+
+// Where the tile at a place in the list starts, or the bed ends: a free stretch there ends with it.
+fn stretch_upto(order: u32, tiles: usize, slots: &[u32], place: usize) -> u32
+    requires { ⌜ (order ≤ highestOrder) × (tiles ≤ length (now slots)) ⌝ }
+    ensures { λ r. ⌜ r ≡ stretchUpto order tiles (now (slots .entry)) place ⌝ }
+{
+    if place < tiles {
+        return tile::corner(slots[place]);
+    }
+    tile::area(order)
+}
+
+// Does the block of a size that has z lie in a stretch?
+fn lies(from: u32, upto: u32, size: u32, z: u32) -> bool
+    requires { ⌜ (size ≤ 15) × (z < 4 ^ highestOrder) ⌝ }
+    ensures { λ r. ⌜ Test (Lies from upto size z) r ⌝ }
+{
+    let corner = tile::corner_at(size, z);
+    if corner < from {
+        return false;
+    }
+    corner + tile::area(size) <= upto
+}
+
+// The size of the largest block that has z and lies in a stretch.
+fn widest(from: u32, upto: u32, z: u32) -> u32
+    requires { ⌜ (from ≤ z) × (z < upto) × (upto ≤ 4 ^ highestOrder) ⌝ }
+    ensures { λ r. ⌜ Widest from upto z r ⌝ }
+{
+    let mut size = 0;
+    while lies(from, upto, size + 1, z) {
+        size += 1;
+    }
+    size
+}
+
+// The block that a valid list has at the Morton number z: only the last tile that starts by z can cover it, and else
+// that tile and the next one bound the free stretch.
+pub fn block_at(order: u32, tiles: usize, slots: &[u32], z: u32) -> Found
+    requires { ⌜ (order ≤ highestOrder) × (z < 4 ^ order) × (tiles ≤ length (now slots))
+        × Valid order (tilesIn tiles (now slots)) ⌝ }
+    ensures { λ r. ⌜ r ≡ foundOf (blockAt order (tilesIn tiles (now (slots .entry))) z) ⌝ }
+{
+    let place = list_search::cut(slots, 0, tiles, z + 1);
+    let from = stretch_from(slots, place);
+    if z < from {
+        return tile_found(slots[place - 1]);
+    }
+    let upto = stretch_upto(order, tiles, slots, place);
+    let size = widest(from, upto, z);
+    Found {
+        number: refusal::ACCEPTED,
+        account: 0,
+        corner: tile::corner_at(size, z),
+        size,
+    }
+}
+
+// The offered call: the account at a column and a row, 0 for nobody, and the block that has it: the tile, or the largest
+// quadrant block that is wholly nobody's. Refused, the first refusal and 0 in all else.
 pub fn lookup(order: u32, tiles: usize, slots: &[u32], column: u32, row: u32) -> Found
     ensures { λ r. ⌜ r ≡ lookupOf order tiles (now (slots .entry)) column row ⌝ }
 {
     let number = lookup_check(order, tiles, slots, column, row);
     if number != refusal::ACCEPTED {
-        return Found { number, account: 0 };
+        return Found {
+            number,
+            account: 0,
+            corner: 0,
+            size: 0,
+        };
     }
-    let account = account_at(tiles, slots, morton::number(column, row));
-    Found {
-        number: refusal::ACCEPTED,
-        account,
-    }
+    block_at(order, tiles, slots, morton::number(column, row))
 }

@@ -6,13 +6,13 @@
 --     read-room, read-stored                      else there is room for the words, and with them stored the reader is done
 use mathlib.Core.Path.{_≡_, refl, ap, sym, _∙_}
 use mathlib.Core.List.{List, [], _++_, map}
-use Prim.Native.Nat.{ℕ, zero, suc, _+_, _-_, _*_, _≤_, _<_}
+use Prim.Native.Nat.{ℕ, _+_, _-_, _*_, _≤_, _<_}
 use native.Mathlib.Omega.{arith}
 use borrow.Author.Tests.{lt-leb, le-leb}
 use lib.ListN.{length, take, drop, replicate}
 use Rattle.refusal.specs.Refusal.{accepted, orderTooLarge, slotsExceeded, fileCutShort}
-use Rattle.refusal.specs.Checks.{must, orElse, unless, After}
-use Rattle.refusal.proofs.CheckLaws.{else-on, else-off, unless-on, unless-off}
+use Rattle.refusal.specs.Checks.{must, orElse, After}
+use Rattle.refusal.proofs.CheckLaws.{else-on, else-off, unless-on, unless-off, unless-number}
 use Rattle.tile.specs.Tile.{tileOf, highestOrder}
 use Rattle.mapfile_bytes.specs.Items.{wordsAt}
 use Rattle.mapfile_entries.specs.RosterCheck.{rosterCheck}
@@ -74,11 +74,6 @@ module _ (m : ℕ) (bs : List ℕ) where
       unfolding examined
       accepts h = sym (unless-on _ _ _ (roster ∙ h) ∙ rw (head .order, head .count))
 
-number-of : (k : ℕ) (y : Reading) → y .number ≡ accepted → unless k refusedWith y .number ≡ k
-unfolding unless
-number-of zero y e = e
-number-of (suc k) y e = refl
-
 module _ (bs slots : List ℕ) (r : Reading) (e : r ≡ examined (length slots) bs) where
   pub read-refused : (r .number ≡ accepted → ⊥) → _≡_ {A = After Reading} (record { answer = r; storage = slots }) (readOf bs slots)
   unfolding examined readOf
@@ -89,7 +84,7 @@ module _ (bs slots : List ℕ) (r : Reading) (e : r ≡ examined (length slots) 
   module _ (h : r .number ≡ accepted) where
     passed : fileCheck (length slots) bs ≡ accepted
     unfolding examined
-    passed = sym (number-of (fileCheck (length slots) bs) _ refl) ∙ (rw e at h)
+    passed = sym (unless-number (λ (a : Reading). a .number) (fileCheck (length slots) bs) (λ x. refl) refl) ∙ (rw e at h)
 
     answer : r ≡ record { number = accepted; order = fileOrder bs; tiles = fileCount bs }
     unfolding examined

@@ -4,14 +4,14 @@
 --     extentOf-refused, extentOf-measured, numberOf-refused, numberOf-found, aroundOf-refused, aroundOf-found,
 --     pointOf-refused, pointOf-found   the answers by how the checks end
 use mathlib.Core.Path.{_≡_, sym, _∙_}
-use Prim.Native.Nat.{ℕ, _-_, _%_, _^_, _≤_, _<_}
+use Prim.Native.Nat.{ℕ, _^_, _≤_, _<_}
 use native.Mathlib.Omega.{arith}
 use Rattle.basics.proofs.Tests.{test-leb}
 use Rattle.refusal.specs.Refusal.{accepted}
 use Rattle.refusal.proofs.CheckLaws.{must-inv, else-inv, unless-on, unless-off}
 use Rattle.morton.specs.Morton.{morton, column, row, sideBits}
 use Rattle.morton.proofs.MortonLaws.{morton-wide, column-wide, row-wide}
-use Rattle.tile.specs.Tile.{highestOrder}
+use Rattle.tile.specs.Tile.{highestOrder, cornerAt}
 use Rattle.checks.specs.Asked.{orderCheck}
 use Rattle.checks.proofs.AskedLaws.{order-passed, point-passed, block-passed}
 use Rattle.points.specs.Points.{extentOf, pointAsked, numberOf, aroundAsked, aroundOf, numberAsked, pointOf}
@@ -69,11 +69,11 @@ module _ (n c r k : ℕ) where
   unfolding aroundOf
   aroundOf-refused x e h = rw (← e) (sym (unless-off x _ _ h))
 
-  pub aroundOf-found : (x z a : ℕ) → x ≡ aroundAsked n c r k → x ≡ accepted → z ≡ morton sideBits c r → a ≡ 4 ^ k → record { number = accepted; corner = z - z % a; size = k } ≡ aroundOf n c r k
+  pub aroundOf-found : (x z d : ℕ) → x ≡ aroundAsked n c r k → x ≡ accepted → z ≡ morton sideBits c r → d ≡ cornerAt k z → record { number = accepted; corner = d; size = k } ≡ aroundOf n c r k
   unfolding aroundOf
-  aroundOf-found x z a e h ez ea =
+  aroundOf-found x z d e h ez ed =
       let q = wide (aroundAsked-passed n c r k (sym e ∙ h) .0) in
-      rw (unless-on _ _ _ (sym e ∙ h), ← q, ← ez, ← ea)
+      rw (unless-on _ _ _ (sym e ∙ h), ← q, ← ez, ← ed)
 
 module _ (n z : ℕ) where
   pub pointOf-refused : (x : ℕ) → x ≡ numberAsked n z → (x ≡ accepted → ⊥) → record { number = x; column = 0; row = 0 } ≡ pointOf n z

@@ -5,11 +5,12 @@
 --     aroundOf n c r k    the block of size k that has this point in it: 1, 31, 32
 --     pointOf n z         the point of the Morton number z: 1, and 32 where no block of size 0 is
 --     pointAsked, aroundAsked, numberAsked   their checks
-use Prim.Native.Nat.{ℕ, _-_, _%_, _^_}
+use Prim.Native.Nat.{ℕ, _^_}
 use lib.Dec.{leb}
 use Rattle.refusal.specs.Refusal.{accepted, blockInvalid}
 use Rattle.refusal.specs.Checks.{must, orElse, unless}
 use Rattle.morton.specs.Morton.{morton, column, row}
+use Rattle.tile.specs.Tile.{cornerAt}
 use Rattle.checks.specs.Asked.{orderCheck, pointCheck, blockCheck}
 use Rattle.points.specs.declared.Extent.{Extent}
 use Rattle.points.specs.declared.Numbered.{Numbered}
@@ -34,12 +35,11 @@ numberOf n c r =
 unfoldable pub aroundAsked : ℕ → ℕ → ℕ → ℕ → ℕ
 aroundAsked n c r k = orElse (pointAsked n c r) (must (leb k n) blockInvalid accepted)
 
--- the corner is the multiple of 4 ^ k at or next below the point's Morton number
 unfoldable pub aroundOf : ℕ → ℕ → ℕ → ℕ → Around
 aroundOf n c r k =
     unless (aroundAsked n c r k)
     (λ number. record { number = number; corner = 0; size = 0 })
-    (record { number = accepted; corner = morton n c r - morton n c r % 4 ^ k; size = k })
+    (record { number = accepted; corner = cornerAt k (morton n c r); size = k })
 
 unfoldable pub numberAsked : ℕ → ℕ → ℕ
 numberAsked n z = orElse (orderCheck n) (blockCheck n z 0)

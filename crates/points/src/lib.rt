@@ -104,11 +104,9 @@ pub fn block_around(order: u32, column: u32, row: u32, size: u32) -> Around
             size: 0,
         };
     }
-    let z = morton::number(column, row);
-    let area = tile::area(size);
     Around {
         number: refusal::ACCEPTED,
-        corner: z - z % area,
+        corner: tile::corner_at(size, morton::number(column, row)),
         size,
     }
 }

@@ -4,14 +4,18 @@
 --     aligned-zero .. -down       which numbers are multiples of 4 ^ k
 --     aligned-gap, aligned-room   two multiples lie 4 ^ k apart; so a block that starts below a multiple ends there at the latest
 --     aligned-nest                of two blocks that meet, the smaller lies in the larger
+--     corner-aligned, -has        the corner of the block of a size that has a number is a multiple, and the block has the number
+--     corner-only                 no other block of the size has it
 --     test-aligned                the test of the definitions
 use mathlib.Core.Path.{_≡_, ap, sym, _∙_}
 use Prim.Native.Nat.{ℕ, suc, _+_, _-_, _*_, _/_, _%_, _^_, _≤_, _<_}
-use native.Mathlib.Nat.{one-le-pow, pow-le-pow-right, mul-le-mul-right, lt-of-mul-lt-mul-right, mul-assoc, zero-lt-suc, add-mul, div-add-mod', mul-mod-left}
+use native.Mathlib.Nat.{one-le-pow, pow-le-pow-right, mul-le-mul-right, lt-of-mul-lt-mul-right, mul-assoc, zero-lt-suc, add-mul, div-add-mod', mul-mod-left, mod-lt}
 use native.Mathlib.Decide.{decLe, decLt}
 use native.Mathlib.Omega.{arith}
 use lib.Pow.{pow-add}
 use Rattle.basics.proofs.Tests.{Test, test-eqb, test-map}
+use Rattle.tile.specs.Tile.{cornerAt}
+use Rattle.tile.proofs.TileLaws.{mod-le}
 use Rattle.quadtree.specs.Raster.{Aligned, aligned}
 
 pub data Cmp (a b : ℕ) : Type 0 where
@@ -65,6 +69,21 @@ aligned-nest {j} {k} {x} {c} h m n p q = (from, aligned-gap m (aligned-down h (a
   where
     from : c ≤ x
     from = elim (decLt x c) [ yes l ↦ absurd (omega (arith, aligned-gap m (aligned-down h n) l)) | no l ↦ omega arith ]
+
+pub corner-aligned : (k z : ℕ) → Aligned k (cornerAt k z)
+corner-aligned k z = record { times = z / 4 ^ k; is = omega (arith, div-add-mod' z (4 ^ k)) }
+
+pub corner-has : (k z : ℕ) → (cornerAt k z ≤ z) × (z < cornerAt k z + 4 ^ k)
+corner-has k z = (omega arith, omega (arith, mod-lt z (area-pos k), mod-le z (4 ^ k)))
+
+pub corner-only : {k c z : ℕ} → Aligned k c → c ≤ z → z < c + 4 ^ k → c ≡ cornerAt k z
+corner-only {k} {c} {z} m l h =
+    let b = corner-has k z in
+    omega (
+      arith,
+      aligned-nest {j = k} {k = k} {x = c} {c = cornerAt k z} (omega arith) m (corner-aligned k z) (omega (arith, b .0)) (omega (arith, b .1)),
+      aligned-nest {j = k} {k = k} {x = cornerAt k z} {c = c} (omega arith) (corner-aligned k z) m (omega (arith, b .1)) (omega (arith, b .0)),
+    )
 
 pub test-aligned : (k x : ℕ) → Test (Aligned k x) (aligned k x)
 unfolding aligned

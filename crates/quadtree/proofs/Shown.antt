@@ -1,4 +1,5 @@
 -- What a tile list shows: `accountAt` of a list, of a tiling and of a painted raster.
+--     test-covers                  the test of the definitions
 --     accountAt-first, -rest       the first tile decides where it covers, else the rest
 --     accountAt-tiling             a tiling of f shows f
 --     accountAt-low                words show accounts up to the highest
@@ -16,7 +17,7 @@ use Rattle.tile.proofs.TileLaws.{tileOf-account}
 use Rattle.quadtree.specs.Raster.{Covers, covers, accountAt, paint}
 use Rattle.quadtree.proofs.Tiling.{Tiling, none, next}
 
-test-covers : (t : Tile) (z : ℕ) → Test (Covers t z) (covers t z)
+pub test-covers : (t : Tile) (z : ℕ) → Test (Covers t z) (covers t z)
 test-covers t z = test-and (test-leb (t .corner) z) (test-leb (suc z) (stop t))
 
 pub accountAt-first : (t : Tile) (ts : List Tile) (z : ℕ) → Covers t z → accountAt (t ∷ ts) z ≡ t .account

@@ -1,5 +1,5 @@
 -- Laws of placement rights.
 --     TableLaws    the table by the numbers of its rows and columns
---     RightsLaws   the offered call by how its checks end
+--     RightsLaws   the offered call by lookup's answer
 pub mod TableLaws
 pub mod RightsLaws

@@ -1,30 +1,52 @@
--- The offered call by how its checks end.
---     rights-point        where no check refuses, the point is known
---     rightsOf-refused    a refusal answers itself and no
---     rightsOf-answer     else the table answers, for the account that the list shows
-use mathlib.Core.Path.{_≡_, sym, _∙_}
+-- The offered call by lookup's answer.
+--     rights-by-lookup                   `RightsByLookup`: the call rests on lookup's answer
+--     rightsOf-lookup, -asker, -answer   lookup's refusal; else 34; else the table, for the account that lookup answers
+use mathlib.Core.Path.{_≡_, refl, ap, sym, _∙_}
 use mathlib.Core.Bool.{Bool, false}
 use mathlib.Core.List.{List}
 use Prim.Native.Nat.{ℕ}
 use Rattle.refusal.specs.Refusal.{accepted}
-use Rattle.refusal.proofs.CheckLaws.{else-inv, unless-on, unless-off}
-use Rattle.morton.specs.Morton.{morton, sideBits}
-use Rattle.tile.specs.Slots.{tilesIn}
-use Rattle.quadtree.specs.Raster.{accountAt}
-use Rattle.lookup.proofs.LookupLaws.{Point, point-known, point-number}
+use Rattle.refusal.specs.Checks.{orElse, unless}
+use Rattle.refusal.proofs.CheckLaws.{else-on, else-off, else-inv, else-else, unless-on, unless-off, unless-alike}
+use Rattle.list_check.specs.ListCheck.{listCheck}
+use Rattle.checks.specs.Asked.{pointCheck, askerCheck}
+use Rattle.lookup.specs.declared.Found.{Found}
+use Rattle.lookup.specs.Lookup.{lookupCheck, lookupOf}
+use Rattle.lookup.proofs.LookupLaws.{lookupOf-number}
+use Rattle.lookup.proofs.LookupPromises.{lookup-account}
+use Rattle.rights.specs.declared.Right.{Right}
 use Rattle.rights.specs.Rights.{mayPlace, rightsCheck, rightsOf}
+use Rattle.rights.specs.Rests.{RightsByLookup}
 
-module _ (n t : ℕ) (slots : List ℕ) (c r p z : ℕ) (is : z ≡ rightsCheck n t slots c r p) where
-  pub rights-point : z ≡ accepted → Point n t slots c r
-  unfolding rightsCheck
-  rights-point h = let e = else-inv _ _ (sym is ∙ h) in point-known n t slots c r (e .0) (else-inv _ _ (e .1) .0)
+module _ (n t : ℕ) (slots : List ℕ) (c r p : ℕ) where
+  -- the checks of lookup, then 34
+  checks-grouped : orElse (lookupCheck n t slots c r) (askerCheck p) ≡ rightsCheck n t slots c r p
+  unfolding lookupCheck rightsCheck
+  checks-grouped = else-else (listCheck n t slots) (pointCheck n c r) (askerCheck p)
 
-  pub rightsOf-refused : (z ≡ accepted → ⊥) → record { number = z; yes = false } ≡ rightsOf n t slots c r p
-  unfolding rightsOf
-  rightsOf-refused h = rw (← is) (sym (unless-off z _ _ h))
+  same-checks : orElse (lookupOf n t slots c r .number) (askerCheck p) ≡ rightsCheck n t slots c r p
+  same-checks = rw (lookupOf-number n t slots c r) checks-grouped
 
-  pub rightsOf-answer : (w h : ℕ) (b : Bool) → z ≡ accepted → w ≡ morton sideBits c r → h ≡ accountAt (tilesIn t slots) w → b ≡ mayPlace p h → record { number = accepted; yes = b } ≡ rightsOf n t slots c r p
-  unfolding rightsOf
-  rightsOf-answer w h b e ew eh eb =
-      let q = point-number (rights-point e) in
-      rw (unless-on _ _ _ (sym is ∙ e), ← q, ← ew, ← eh, ← eb)
+pub rights-by-lookup : RightsByLookup
+unfolding RightsByLookup rightsOf
+rights-by-lookup n t slots c r p = rw (same-checks n t slots c r p)
+    (unless-alike (λ (a b : Right). a ≡ b) (rightsCheck n t slots c r p) (λ x. refl)
+    (λ e. ap (λ (h : ℕ). record { number = accepted; yes = mayPlace p h }) (sym (lookup-account n t slots c r (else-inv _ _ (checks-grouped n t slots c r p ∙ e) .0)))))
+
+module _ (n t : ℕ) (slots : List ℕ) (c r p : ℕ) (f : Found) (is : f ≡ lookupOf n t slots c r) where
+  by-found : rightsOf n t slots c r p ≡ unless (orElse (f .number) (askerCheck p)) (λ number. record { number = number; yes = false }) (record { number = accepted; yes = mayPlace p (f .account) })
+  unfolding RightsByLookup
+  by-found = rw is (rights-by-lookup n t slots c r p)
+
+  pub rightsOf-lookup : (f .number ≡ accepted → ⊥) → record { number = f .number; yes = false } ≡ rightsOf n t slots c r p
+  rightsOf-lookup h = sym (by-found ∙ rw (else-off (f .number) (askerCheck p) h) (unless-off (f .number) _ _ h))
+
+  module _ (x : ℕ) (asked : x ≡ askerCheck p) (found : f .number ≡ accepted) where
+    number : orElse (f .number) (askerCheck p) ≡ x
+    number = else-on (f .number) (askerCheck p) found ∙ sym asked
+
+    pub rightsOf-asker : (x ≡ accepted → ⊥) → record { number = x; yes = false } ≡ rightsOf n t slots c r p
+    rightsOf-asker h = sym (by-found ∙ rw number (unless-off x _ _ h))
+
+    pub rightsOf-answer : x ≡ accepted → (b : Bool) → b ≡ mayPlace p (f .account) → record { number = accepted; yes = b } ≡ rightsOf n t slots c r p
+    rightsOf-answer h b e = sym (by-found ∙ unless-on _ _ _ (number ∙ h) ∙ rw (sym e))

@@ -1,7 +1,7 @@
 // Placement rights: which account may place at which pixel, by a table of classes and kinds of pixels.
 ghost use mathlib.Core.Path.{_≡_};
 ghost use Prim.Native.Nat.{_<_};
-ghost use Rattle.rights.specs.Rights.{classOf, pixelKind, mayPlace, rightsCheck, rightsOf};
+ghost use Rattle.rights.specs.Rights.{classOf, pixelKind, mayPlace, rightsOf};
 ghost use Rattle.rights.specs.Rows.{rowOf};
 
 // The rights call's answer.
@@ -72,33 +72,24 @@ fn may_place(asking: u8, holder: u8) -> bool
     TABLE[class][kind]
 }
 
-// The checks in their order: those of the list, then 31, then 34.
-fn rights_check(order: u32, tiles: usize, slots: &[u32], column: u32, row: u32, asking: u8) -> u32
-    ensures { λ r. ⌜ r ≡ rightsCheck order tiles (now (slots .entry)) column row asking ⌝ }
-{
-    let listed = list_check::check(order, tiles, slots);
-    if listed != refusal::ACCEPTED {
-        return listed;
-    }
-    let pointed = checks::point(order, column, row);
-    if pointed != refusal::ACCEPTED {
-        return pointed;
-    }
-    checks::asker(asking)
-}
-
 // The offered call: may the asking account place at the pixel in a column and a row? Refused, the first refusal and no.
+// It rests on lookup's answer: first lookup's refusals, then 34.
 pub fn rights(order: u32, tiles: usize, slots: &[u32], column: u32, row: u32, asking: u8) -> Right
     ensures { λ r. ⌜ r ≡ rightsOf order tiles (now (slots .entry)) column row asking ⌝ }
 {
-    let number = rights_check(order, tiles, slots, column, row, asking);
+    let found = lookup::lookup(order, tiles, slots, column, row);
+    if found.number != refusal::ACCEPTED {
+        return Right {
+            number: found.number,
+            yes: false,
+        };
+    }
+    let number = checks::asker(asking);
     if number != refusal::ACCEPTED {
         return Right { number, yes: false };
     }
-    let holder = lookup::account_at(tiles, slots, morton::number(column, row));
-    let yes = may_place(asking, holder);
     Right {
         number: refusal::ACCEPTED,
-        yes,
+        yes: may_place(asking, found.account),
     }
 }

@@ -6,8 +6,10 @@
 --     tileOf-account      the account of a word's tile is at most the highest
 --     tileOf-corner-low   a word whose corner lies in the largest bed is below the limit
 --     wordOf-low          the word of a packable tile in the largest bed is below the limit
+--     mod-le              a remainder is at most the number
 use mathlib.Core.Path.{_≡_}
 use Prim.Native.Nat.{ℕ, _+_, _*_, _/_, _%_, _^_, _≤_, _<_}
+use native.Mathlib.Nat.{div-add-mod'}
 use native.Mathlib.Omega.{arith}
 use Rattle.tile.specs.Tile.{Tile, tileOf, wordOf, highestOrder, highestAccount, wordLimit}
 
@@ -47,3 +49,6 @@ tileOf-corner-low w h = omega arith
 pub wordOf-low : (t : Tile) → t .corner < 4 ^ highestOrder → t .size < 16 → t .account ≤ highestAccount → wordOf t < wordLimit
 unfolding wordOf
 wordOf-low t h g l = omega arith
+
+pub mod-le : (z a : ℕ) → z % a ≤ z
+mod-le z a = omega (arith, div-add-mod' z a)

@@ -2,13 +2,14 @@
 -- here and nowhere else.
 --     Tile, tile c k a            a tile: corner c, size k, account a
 --     stop t                      the first Morton number past the tile t
+--     cornerAt k z                the corner of the block of size k that has the Morton number z
 --     highestOrder                orders and sizes go from 0 to it
 --     highestAccount              accounts go from 0, nobody's, to it
 --     wordLimit                   the words of tiles are below it
 --     wordOf t                    the word of the tile t
 --     tileOf w                    the tile of the word w
 -- Not here: which tiles lie in a bed (quadtree, `Quadrant`), which words are refused (list_check, `wordCheck`).
-use Prim.Native.Nat.{ℕ, _+_, _*_, _/_, _%_, _^_}
+use Prim.Native.Nat.{ℕ, _+_, _-_, _*_, _/_, _%_, _^_}
 
 pub record Tile : Type 0 where
   pub corner : ℕ
@@ -21,6 +22,10 @@ tile c k a = record { corner = c; size = k; account = a }
 -- "it covers the numbers from corner to corner + 4^k − 1"
 abbrev pub stop : Tile → ℕ
 stop t = t .corner + 4 ^ t .size
+
+-- the multiple of 4 ^ k at or next below z
+abbrev pub cornerAt : ℕ → ℕ → ℕ
+cornerAt k z = z - z % 4 ^ k
 
 abbrev pub highestOrder : ℕ
 highestOrder = 10

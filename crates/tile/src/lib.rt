@@ -1,7 +1,8 @@
-// The tile word, packed and unpacked by shifts and masks, and the areas of tiles. No other crate knows the bits.
+// The tile word, packed and unpacked by shifts and masks, and the areas and corners of blocks. No other crate knows the
+// bits.
 ghost use mathlib.Core.Path.{_≡_};
 ghost use Prim.Native.Nat.{_^_, _<_, _≤_};
-ghost use Rattle.tile.specs.Tile.{tile, stop, tileOf, wordOf, highestOrder, highestAccount};
+ghost use Rattle.tile.specs.Tile.{tile, stop, cornerAt, tileOf, wordOf, highestOrder, highestAccount};
 
 // Orders and sizes go from 0 to it.
 pub const HIGHEST_ORDER: u32 = 10;
@@ -65,4 +66,12 @@ pub fn stop(w: u32) -> u32
     ensures { λ r. ⌜ r ≡ stop (tileOf w) ⌝ }
 {
     corner(w) + area(size(w))
+}
+
+// The corner of the block of a size that has the Morton number z.
+pub fn corner_at(size: u32, z: u32) -> u32
+    requires { ⌜ size ≤ 15 ⌝ }
+    ensures { λ r. ⌜ r ≡ cornerAt size z ⌝ }
+{
+    z - z % area(size)
 }

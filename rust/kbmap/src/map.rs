@@ -5,7 +5,7 @@ use crate::input::Source;
 use crate::layout::Layout;
 use crate::locate::locate;
 use crate::words;
-use kingletbed::{raw, Account, Bed, Block, Pixel, Refusal, Tile, HIGHEST_ORDER};
+use kingletbed::{raw, Account, Bed, Refusal, HIGHEST_ORDER};
 
 /// A file's bytes and its bed.
 pub struct Map {
@@ -93,20 +93,6 @@ impl Map {
         let decoded = self.bed.decode(&mut raster);
         decoded.map_err(|refusal| self.refused(refusal, "decoding".to_owned()))?;
         Ok(raster)
-    }
-
-    /// The tile that has a pixel; nothing if it is nobody's.
-    pub fn tile_at(&self, pixel: Pixel) -> Result<Option<Tile>, Refusal> {
-        for size in 0..=self.bed.order() {
-            let block = Block::around(self.bed.order(), pixel, size)?;
-            if let [word] = *self.bed.part(block)? {
-                let tile = Tile::of_word(word);
-                if tile.block() == block {
-                    return Ok(Some(tile));
-                }
-            }
-        }
-        Ok(None)
     }
 
     /// "64 by 64 pixels".

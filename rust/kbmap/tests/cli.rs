@@ -107,7 +107,12 @@ fn at() {
     assert_eq!(scratch.kbmap("at bed.map 3 2"), ok(held));
     let single = "column 3, row 1: account 9, student\n  tile: corner 7, size 0: column 3, row 1, 1 pixel\n";
     assert_eq!(scratch.kbmap("at bed.map 3 1"), ok(single));
-    assert_eq!(scratch.kbmap("at bed.map 1 2"), ok("column 1, row 2: nobody's\n  no tile has it\n"));
+    let free = "column 1, row 2: nobody's\n  free block: corner 9, size 0: column 1, row 2, 1 pixel\n";
+    assert_eq!(scratch.kbmap("at bed.map 1 2"), ok(free));
+    // Account 9's pixel in the block NE released, the whole block is free.
+    assert_eq!(scratch.kbmap("release bed.map 3,1 0 -o fewer.map").status, 0);
+    let larger = "column 2, row 0: nobody's\n  free block: corner 4, size 1: columns 2 to 3, rows 0 to 1, 4 pixels\n";
+    assert_eq!(scratch.kbmap("at fewer.map 2 0"), ok(larger));
     let outside = "kbmap: bed.map: refused, 31 POINT_OUTSIDE: the pixel is off the bed\n  \
                    column 4, row 0, on a bed of 4 by 4 pixels\n";
     assert_eq!(scratch.kbmap("at bed.map 4 0"), refused(outside));

@@ -43,6 +43,10 @@ pub struct Found {
     pub number: u32,
     /// The account, 0 for nobody.
     pub account: u8,
+    /// The corner of the block that has the pixel: its tile, or the largest one that is wholly nobody's.
+    pub corner: u32,
+    /// Its size.
+    pub size: u32,
 }
 
 /// `kb_part_answer`.

@@ -110,7 +110,8 @@ fn others(random: &mut Random, count: &mut Count, raster: &[u8], words: &[u32]) 
     assert!(count.decode(at, &vec![0xaa; PIXELS]).1 == raster, "decoding a large bed");
     for _ in 0..2 {
         let (column, row) = (random.below(SIDE), random.below(SIDE));
-        assert_eq!(count.lookup(at, column as u32, row as u32), (0, raster[row * SIDE + column]));
+        let (number, named) = count.lookup(at, column as u32, row as u32);
+        assert_eq!((number, named.account), (0, raster[row * SIDE + column]));
         count.rights(at, column as u32, row as u32, random.between(1, 63) as u8);
         let (corner, size) = block(random, ORDER);
         count.part(at, corner, size);

@@ -6,7 +6,7 @@
 
 use crate::lent::{Brief, Lent};
 use crate::plain::{area, list, Record, Tile};
-use kingletbed::{raw, Account, Bed, Block, Kind, Pixel, Refusal};
+use kingletbed::{raw, Account, Bed, Block, Found, Kind, Pixel, Refusal};
 use std::collections::BTreeMap;
 use std::fmt::Debug;
 
@@ -129,18 +129,37 @@ impl Count {
         (number, after)
     }
 
-    pub fn lookup<'a>(&mut self, at: impl Into<At<'a>>, column: u32, row: u32) -> (u32, u8) {
+    /// The number and the block named.
+    pub fn lookup<'a>(&mut self, at: impl Into<At<'a>>, column: u32, row: u32) -> (u32, Tile) {
         let at = at.into();
         let given = (at, column, row);
         let plain = list::lookup(at.order, at.tiles, at.slots, column, row);
         let answer = raw::lookup(at.order, at.tiles, at.slots, column, row);
-        same("lookup", &given, (answer.number, answer.account), plain);
+        let named = Tile { corner: answer.corner.into(), size: answer.size, account: answer.account };
+        same("lookup", &given, (answer.number, named), plain);
         for bed in at.beds() {
             let wrapped = bed.and_then(|bed| bed.lookup(Pixel { column, row }));
-            same("lookup of a bed", &given, flat(wrapped), some(plain.0, Account(plain.1)));
+            let block = Block { corner: answer.corner, size: answer.size };
+            same(
+                "lookup of a bed",
+                &given,
+                flat(wrapped),
+                some(plain.0, Found { account: Account(plain.1.account), block }),
+            );
         }
         self.add(plain.0);
         plain
+    }
+
+    /// Two lookups: the answers are the same just where the second pixel lies in the block that the first named.
+    pub fn lookups<'a>(&mut self, at: impl Into<At<'a>>, (column, row): (u32, u32), other: (u32, u32)) {
+        let at = at.into();
+        let (first, second) = (self.lookup(at, column, row), self.lookup(at, other.0, other.1));
+        if first.0 == 0 {
+            let block = Block { corner: first.1.corner as u32, size: first.1.size };
+            let has = block.has(Pixel { column: other.0, row: other.1 });
+            same("lookup inside the block named", &(at, (column, row), other), has, first == second);
+        }
     }
 
     pub fn part<'a>(&mut self, at: impl Into<At<'a>>, corner: u32, size: u32) -> (u32, usize, usize) {

@@ -181,7 +181,9 @@ pub fn ask(random: &mut Random, count: &mut Count, at: At) {
             count.decode(at, &vec![0x5a; length]);
         }
         2 => {
-            count.lookup(at, column, row);
+            let other = (random.below(side + 1) as u32, random.below(side + 1) as u32);
+            let near = (column ^ random.below(4) as u32, row ^ random.below(4) as u32);
+            count.lookups(at, (column, row), if random.once_in(2) { near } else { other });
         }
         3 => {
             let (corner, size) = block(random, order);

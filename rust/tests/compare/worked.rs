@@ -53,8 +53,12 @@ fn bed_m(count: &mut Count) {
     assert_eq!(count.part(at, 4, 1), (0, 1, 1));
     assert_eq!(count.part(at, 12, 0), (0, 3, 0));
     assert_eq!(count.shown(at, 12, 0), (0, vec![Tile { corner: 12, size: 0, account: 9 }]));
-    assert_eq!(count.lookup(at, 3, 1), (0, 9));
-    assert_eq!(count.lookup(at, 4, 1).0, 31);
+    assert_eq!(count.lookup(at, 3, 1), (0, Tile { corner: 7, size: 0, account: 9 }));
+    assert_eq!(count.lookup(at, 3, 2), (0, Tile { corner: 12, size: 1, account: 9 }));
+    assert_eq!(count.lookup(at, 2, 0), (0, Tile { corner: 4, size: 0, account: 0 }));
+    assert_eq!(count.lookup((2, 3, &[69, 8201, 12361]), 2, 0), (0, Tile { corner: 4, size: 1, account: 0 }));
+    assert_eq!(count.lookup((10, 0, &[0; 0]), 700, 3), (0, Tile { corner: 0, size: 10, account: 0 }));
+    assert_eq!(count.lookup(at, 4, 1), (31, Tile { corner: 0, size: 0, account: 0 }));
 
     let mut slots = M_WORDS.to_vec();
     slots.resize(6, 0);
@@ -124,7 +128,8 @@ fn places(count: &mut Count) {
         let mut accounts = vec![0; 64];
         accounts[row * 8 + column] = 9;
         assert_eq!(scanned(count, 0, 3, 1, &accounts).3, [word(corner, 0, 9)]);
-        assert_eq!(count.lookup((3, 1, &[word(corner, 0, 9)]), column as u32, row as u32), (0, 9));
+        let named = Tile { corner: corner.into(), size: 0, account: 9 };
+        assert_eq!(count.lookup((3, 1, &[word(corner, 0, 9)]), column as u32, row as u32), (0, named));
     }
 }
 

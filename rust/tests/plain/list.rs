@@ -2,7 +2,7 @@
 //! storage too.
 
 use super::bed::{block_in, painted, Bed};
-use super::{area, file, left, pixel, Record, Tile};
+use super::{area, file, left, morton, pixel, Record, Tile};
 
 /// The tiles of a list whose words have passed their checks; their corners rise.
 #[derive(Default)]
@@ -115,16 +115,29 @@ pub fn decode(order: u32, tiles: usize, slots: &[u32], raster: &[u8]) -> (u32, V
     }
 }
 
-pub fn lookup(order: u32, tiles: usize, slots: &[u32], column: u32, row: u32) -> (u32, u8) {
+/// The number and the block named, with its account: of the squares that quadrants cover and that have the pixel, the
+/// largest one of the pixel's account alone.
+pub fn lookup(order: u32, tiles: usize, slots: &[u32], column: u32, row: u32) -> (u32, Tile) {
+    let nothing = Tile { corner: 0, size: 0, account: 0 };
     let tiles = match checked(order, tiles, slots) {
-        Err(number) => return (number, 0),
+        Err(number) => return (number, nothing),
         Ok(tiles) => tiles,
     };
-    let side = 2u32.pow(order);
+    let (side, column, row) = (2usize.pow(order), column as usize, row as usize);
     if column >= side || row >= side {
-        return (31, 0);
+        return (31, nothing);
     }
-    (0, painted(order, &tiles)[(row * side + column) as usize])
+    let accounts = painted(order, &tiles);
+    let account = accounts[row * side + column];
+    for size in (0..=order).rev() {
+        let wide = 2usize.pow(size);
+        let (west, north) = (column - column % wide, row - row % wide);
+        let mut rows = (north..north + wide).map(|row| &accounts[row * side + west..][..wide]);
+        if rows.all(|row| row.iter().all(|&other| other == account)) {
+            return (0, Tile { corner: morton(west, north), size, account });
+        }
+    }
+    panic!("the pixel itself is of one account");
 }
 
 /// The number, the position and the length.
@@ -176,7 +189,7 @@ fn class(account: u8) -> Class {
 }
 
 pub fn rights(order: u32, tiles: usize, slots: &[u32], column: u32, row: u32, asking: u8) -> (u32, bool) {
-    let (number, holder) = lookup(order, tiles, slots, column, row);
+    let (number, Tile { account: holder, .. }) = lookup(order, tiles, slots, column, row);
     if number != 0 {
         return (number, false);
     }

@@ -5,7 +5,7 @@ use crate::input::Source;
 use crate::map::{Holding, Map};
 use crate::output::print;
 use crate::words::{class, count, share, span};
-use kingletbed::{raw, Account, Pixel, Tile};
+use kingletbed::{raw, Account, Block, Found, Pixel};
 use std::fmt::Write;
 
 /// Order, tiles, and the accounts with what they have.
@@ -42,23 +42,21 @@ fn table(text: &mut String, holdings: &[Holding], pixels: u32) {
     }
 }
 
-/// Who has a pixel, and by which tile.
+/// Who has a pixel, and by which tile, or the free block around it.
 pub fn at(file: Source, pixel: Pixel) -> Result<(), Failure> {
     let map = Map::open(file)?;
     let Pixel { column, row } = pixel;
     let asked = || format!("column {column}, row {row}, on a bed of {}", map.extent());
-    let found = map.bed.lookup(pixel).and_then(|account| Ok((account, map.tile_at(pixel)?)));
-    let (account, tile) = found.map_err(|refusal| map.refused(refusal, asked()))?;
-    let who = match account {
-        Account::NOBODY => "nobody's".to_owned(),
-        Account(number) => format!("account {number}, {}", class(account)),
+    let Found { account, block } = map.bed.lookup(pixel).map_err(|refusal| map.refused(refusal, asked()))?;
+    let (who, what) = match account {
+        Account::NOBODY => ("nobody's".to_owned(), "free block"),
+        Account(number) => (format!("account {number}, {}", class(account)), "tile"),
     };
-    let tile = tile.map_or("no tile has it".to_owned(), described);
-    print(&format!("column {column}, row {row}: {who}\n  {tile}\n"))
+    print(&format!("column {column}, row {row}: {who}\n  {what}: {}\n", described(block)))
 }
 
-fn described(tile: Tile) -> String {
-    let pixels = count(raw::extent(tile.size()).pixels as usize, "pixel");
-    let span = span(tile.block()).unwrap_or_default();
-    format!("tile: corner {}, size {}: {span}, {pixels}", tile.corner(), tile.size())
+fn described(block: Block) -> String {
+    let pixels = count(raw::extent(block.size).pixels as usize, "pixel");
+    let span = span(block).unwrap_or_default();
+    format!("corner {}, size {}: {span}, {pixels}", block.corner, block.size)
 }

@@ -1,0 +1,28 @@
+-- The worked lines, computed.
+use mathlib.Core.Path.{refl}
+use Rattle.basics.specs.Choice.{if}
+use Rattle.refusal.specs.Checks.{must, orElse, unless}
+use Rattle.morton.specs.Morton.{morton}
+use Rattle.tile.specs.Tile.{tileOf}
+use Rattle.tile.specs.Slots.{tilesIn}
+use Rattle.quadtree.specs.Raster.{aligned, uniform, accountAt}
+use Rattle.list_check.specs.ListCheck.{follows, lastOfFour, ended, soundCheck, wordCheck, wordsCheck, listCheck}
+use Rattle.checks.specs.Asked.{pointIn, pointCheck}
+use Rattle.lookup.specs.Block.{tileAt, freeSize, freeBlock, blockAt}
+use Rattle.lookup.specs.Lookup.{lookupCheck, lookupOf}
+use Rattle.lookup.specs.Worked.{LookupLines}
+
+pub lookup-lines : LookupLines
+unfolding if must orElse unless morton tileOf tilesIn aligned uniform accountAt follows lastOfFour ended soundCheck wordCheck wordsCheck listCheck pointIn pointCheck tileAt freeSize freeBlock blockAt lookupCheck lookupOf
+lookup-lines = record {
+  M-pixel = refl;
+  M-under = refl;
+  M-free = refl;
+  quadrant-free = refl;
+  stretch-start = refl;
+  stretch-on = refl;
+  empty = refl;
+  empty-pixel = refl;
+  M-outside = refl;
+  damaged = refl;
+}

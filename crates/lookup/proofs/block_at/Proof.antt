@@ -1,0 +1,76 @@
+-- The place of z in the list: the tile ahead of it covers z, or else stops where the free stretch starts.
+use mathlib.Core.Path.{_∙_, ap}
+use Prim.Native.Nat.{ℕ, _^_, _<_}
+use native.Mathlib.Omega.{arith}
+use borrow.Author.Needs.{needs}
+use Rattle.tile.specs.Tile.{tile, highestOrder}
+use Rattle.tile.specs.Slots.{tilesIn}
+use Rattle.quadtree.specs.Raster.{accountAt}
+use Rattle.quadtree.proofs.Alignment.{area-mono, size-le}
+use Rattle.lookup.specs.Lookup.{foundOf}
+use Rattle.lookup.proofs.StretchLaws.{Stretch, place-tile, place-stretch, place-found, place-free}
+use Rattle.lookup.proofs.block_at.Statement.{statement}
+use Rattle.lookup.proofs.block_at.Tie as tie
+
+returns : tie.Need-returns
+returns c =
+    let s = c .before .before .before .before .before .before in
+    let cut = c .before .before .before .before .cut in
+    let stretch-from = c .before .before .before .stretch-from in
+    c .tile-found .ensures ∙ place-found (s .args .order) (s .args .tiles) (s .args .slots .now) (s .pre .2) (s .pre .3) (s .args .z) (cut .result)
+    (cut .ensures) (omega (arith, stretch-from .ensures, c .before .before .if1 .taken))
+
+returns-2 : tie.Need-returns-2
+returns-2 c =
+    let s = c .before .before .before .before .before .before .before in
+    let cut = c .before .before .before .before .before .cut in
+    let from = c .before .before .before .before .stretch-from .ensures in
+    let upto = c .before .before .stretch-upto .ensures in
+    let size = c .before .widest .result in
+    ap (λ (d : ℕ). foundOf (tile d size 0)) (c .corner-at .ensures) ∙ place-free (s .args .order) (s .args .tiles) (s .args .slots .now) (s .pre .2) (s .pre .3)
+    (s .args .z) (cut .result) (cut .ensures) (s .pre .1) (omega (arith, from, c .before .before .before .if1 .left)) size (rw (← from, ← upto)
+    (c .before .widest .ensures))
+
+add-cut : tie.Need-add-cut
+add-cut c = omega (arith, area-mono (c .before .pre .0))
+
+-- a tile is ahead of the place
+ahead : (c : tie.Then1) → 0 < c .before .before .cut .result
+ahead c =
+    let s = c .before .before .before .before in
+    let cut = c .before .before .cut in
+    place-tile (s .args .order) (s .args .tiles) (s .args .slots .now) (s .pre .2) (s .pre .3) (s .args .z) (cut .result) (cut .ensures)
+    (omega (arith, c .before .stretch-from .ensures, c .if1 .taken)) .0
+
+-- the stretch that code found
+stretch : (c : tie.After-stretch-upto) →
+    let s = c .before .before .before .before .before in
+    Stretch (accountAt (tilesIn (s .args .tiles) (s .args .slots .now))) (4 ^ s .args .order) (c .before .before .stretch-from .result) (c .stretch-upto .result) (s .args .z)
+stretch c =
+    let s = c .before .before .before .before .before in
+    let cut = c .before .before .before .cut in
+    let from = c .before .before .stretch-from .ensures in
+    rw (from, c .stretch-upto .ensures) (place-stretch (s .args .order) (s .args .tiles) (s .args .slots .now) (s .pre .2) (s .pre .3) (s .args .z) (cut .result)
+    (cut .ensures) (s .pre .1) (omega (arith, from, c .before .if1 .left)))
+
+sub-tile-found : tie.Need-sub-tile-found
+sub-tile-found c = omega (arith, ahead c)
+
+shared-slice-read-tile-found : tie.Need-shared-slice-read-tile-found
+shared-slice-read-tile-found c = omega (arith, ahead (c .before), c .before .before .before .cut .ensures .to)
+
+widest-requires : tie.Need-widest-requires
+widest-requires c κs =
+    let w = stretch c in
+    (w .from, w .upto, omega (arith, w .room, area-mono (c .before .before .before .before .before .pre .0)))
+
+corner-at-requires : tie.Need-corner-at-requires
+corner-at-requires c κs =
+    let w = stretch (c .before) in
+    let m = area-mono (c .before .before .before .before .before .before .pre .0) in
+    omega (arith, size-le (c .widest .result) highestOrder (omega (arith, m, w .room, c .widest .ensures .lies .1)))
+
+pub block-at-spec : {M : Type 1} → statement M
+block-at-spec =
+    tie.close (tie.spec add-cut (λ c κs. search needs) (λ c κs. search needs) sub-tile-found (λ c. search needs) shared-slice-read-tile-found
+    (λ c κs. search needs) returns (λ c κs. search needs) widest-requires corner-at-requires returns-2)
