@@ -1,38 +1,16 @@
 -- The largest block of a stretch by the bits of two numbers.
---     Room d r         4 ^ r is the largest area up to d
---     room-size        half the place of the highest bit of d is such a size
---     zeros-few        a number that is not 0 has at most 31 zeros ahead of its highest bit
 --     greedy-starts    the size that can start at lo, where there is more room
 --     greedy-room      the size that has room, where at least this can start
 use mathlib.Core.Path.{_≡_, refl, ap, _∙_}
 use Prim.Native.Nat.{ℕ, zero, suc, _+_, _-_, _*_, _/_, _^_, _≤_, _<_}
 use native.Mathlib.Omega.{arith}
-use lib.Count.{leadingZeros, trailingZeros, leading-top, trailing-of-zero}
-use lib.Pow.{pow-mono}
+use lib.Count.{leadingZeros, trailingZeros, trailing-of-zero}
 use Rattle.tile.specs.Tile.{highestOrder}
 use Rattle.quadtree.specs.Raster.{Aligned}
 use Rattle.quadtree.specs.Runs.{Greedy}
 use Rattle.quadtree.proofs.Alignment.{area-mono, size-le, aligned-down}
-use Rattle.quadtree.proofs.TrailingZeros.{twice, levels-half}
-
-pub record Room (d r : ℕ) : Type 0 where
-  pub fits : 4 ^ r ≤ d
-  pub more : d < 4 ^ suc r
-
-pub room-size : (d : ℕ) → 0 < d → d < 2 ^ 32 → Room d ((31 - leadingZeros 32 d) / 2)
-room-size d h l = go (leading-top 32 d h l)
-  where
-    half : (j : ℕ) → 2 ^ j ≤ d → d < 2 ^ suc j → Room d (j / 2)
-    half j p q = record {
-      fits = let m : 2 ^ (2 * (j / 2)) ≤ 2 ^ j = pow-mono (omega arith) in omega (arith, twice (j / 2));
-      more = let m : 2 ^ suc j ≤ 2 ^ (2 * suc (j / 2)) = pow-mono (omega arith) in omega (arith, twice (suc (j / 2)));
-    }
-
-    go : (j : ℕ) × (leadingZeros 32 d + suc j ≡ 32) × (2 ^ j ≤ d) × (d < 2 ^ suc j) → Room d ((31 - leadingZeros 32 d) / 2)
-    go (j, e, p, q) = let s : 31 - leadingZeros 32 d ≡ j = omega arith in rw s (half j p q)
-
-pub zeros-few : (d : ℕ) → 0 < d → d < 2 ^ 32 → leadingZeros 32 d ≤ 31
-zeros-few d h l = let t = leading-top 32 d h l in omega (arith, t .1)
+use Rattle.quadtree.proofs.TrailingZeros.{levels-half}
+use Rattle.quadtree.proofs.HighestBit.{Room, room-size}
 
 module _ (lo hi : ℕ) (h : lo < hi) (l : hi ≤ 4 ^ highestOrder) where
   abbrev starts : ℕ

@@ -3,6 +3,7 @@
 --     shownBy us z i           what the last of the i tiles at the front of us shows at z
 --     accountAt-shownBy        where i tiles start by z, that is the account of the list
 --     Stretch f end lo hi z    z lies in the free stretch from lo up to hi: nobody's, and somebody's next to it
+--     widest-first, -ahead, -behind   the widest block in a stretch, by the sizes apart from what lies on either side
 --     stretch-names            the widest block in it is the one named
 --     place-tile               where the tile ahead of the place of z stops past z, it is the block named
 --     place-stretch            else the two tiles next to the place bound the stretch of z
@@ -24,6 +25,7 @@ use Rattle.tile.proofs.SlotTiles.{tilesIn-at, tilesIn-in}
 use Rattle.quadtree.specs.Raster.{Aligned, Covers, Uniform, accountAt}
 use Rattle.quadtree.specs.Quadtree.{Largest}
 use Rattle.quadtree.specs.Valid.{Chain, end, link, Valid}
+use Rattle.quadtree.specs.Tiling.{Without}
 use Rattle.quadtree.proofs.Alignment.{area-pos, size-le, aligned-room, aligned-nest, corner-aligned, corner-has}
 use Rattle.quadtree.proofs.Shown.{accountAt-first, accountAt-rest}
 use Rattle.quadtree.proofs.Chains.{chain-rising, chain-before}
@@ -85,6 +87,36 @@ pub record Stretch (f : ℕ → ℕ) (end lo hi z : ℕ) : Type 0 where
   pub before : 0 < lo → 0 < f (lo - 1)
   pub behind : hi < end → 0 < f hi
 
+-- the sizes that end short of y and start behind it
+without-before : {z y k : ℕ} → Without z y k → z < y → cornerAt k z + 4 ^ k ≤ y
+without-before {z} {y} {k} p h = elim (decLt y (cornerAt k z + 4 ^ k)) [ yes l ↦ absurd (p .short (omega (arith, corner-has k z .0), l)) | no l ↦ omega arith ]
+
+without-behind : {z y k : ℕ} → Without z y k → y < z → y < cornerAt k z
+without-behind {z} {y} {k} p h = elim (decLt y (cornerAt k z)) [ yes l ↦ l | no l ↦ absurd (p .short (omega arith, omega (arith, corner-has k z .1))) ]
+
+-- of two blocks that have z, the smaller lies in the larger
+corner-nest : (z : ℕ) {j k : ℕ} → j ≤ k → (cornerAt k z ≤ cornerAt j z) × (cornerAt j z + 4 ^ j ≤ cornerAt k z + 4 ^ k)
+corner-nest z {j} {k} h =
+    aligned-nest {j = j} {k = k} {x = cornerAt j z} {c = cornerAt k z} h (corner-aligned j z) (corner-aligned k z)
+    (omega (arith, corner-has k z .0, corner-has j z .1)) (omega (arith, corner-has j z .0, corner-has k z .1))
+
+module _ {lo hi z b : ℕ} (behind : Without z hi b) (upto : z < hi) where
+  pub widest-first : lo ≡ 0 → Widest lo hi z b
+  widest-first e = record { lies = (omega arith, without-before behind upto); top = λ l. omega (arith, l .1, behind .over .1) }
+
+  module _ {a : ℕ} (first : 0 < lo) (ahead : Without z (lo - 1) a) (from : lo ≤ z) where
+    pub widest-ahead : a < b → Widest lo hi z a
+    widest-ahead h = record {
+      lies = (omega (arith, without-behind ahead (omega arith)), omega (arith, corner-nest z {j = a} {k = b} (omega arith) .1, without-before behind upto));
+      top = λ l. omega (arith, l .0, ahead .over .0);
+    }
+
+    pub widest-behind : b ≤ a → Widest lo hi z b
+    widest-behind h = record {
+      lies = (omega (arith, corner-nest z {j = b} {k = a} h .0, without-behind ahead (omega arith)), without-before behind upto);
+      top = λ l. omega (arith, l .1, behind .over .1);
+    }
+
 -- a uniform block reaches past neither end of the stretch
 pub stretch-names : {n : ℕ} {f : ℕ → ℕ} {lo hi z k : ℕ} → Stretch f (4 ^ n) lo hi z → Widest lo hi z k → Names n f z (tile (cornerAt k z) k 0)
 stretch-names {n} {f} {lo} {hi} {z} {k} s w = record {
@@ -107,10 +139,10 @@ stretch-names {n} {f} {lo} {hi} {z} {k} s w = record {
           | no d ↦ omega arith
         ]
 
-        o : (c ≤ cornerAt (k + 1) z) × (cornerAt (k + 1) z + 4 ^ (k + 1) ≤ c + 4 ^ j)
+        o : (c ≤ cornerAt (suc k) z) × (cornerAt (suc k) z + 4 ^ suc k ≤ c + 4 ^ j)
         o =
-            let q = corner-has (k + 1) z in
-            aligned-nest {j = k + 1} {k = j} {x = cornerAt (k + 1) z} {c = c} (omega arith) (corner-aligned (k + 1) z) m (omega (arith, q .1)) (omega (arith, q .0))
+            let q = corner-has (suc k) z in
+            aligned-nest {j = suc k} {k = j} {x = cornerAt (suc k) z} {c = c} h (corner-aligned (suc k) z) m (omega (arith, q .1)) (omega (arith, q .0))
 
 module _ (n t : ℕ) (slots : List ℕ) (count : t ≤ length slots) (valid : Valid n (tilesIn t slots)) where
   abbrev map : ℕ → ℕ

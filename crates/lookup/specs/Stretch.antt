@@ -22,4 +22,4 @@ Lies lo hi k z = (lo ≤ cornerAt k z) × (cornerAt k z + 4 ^ k ≤ hi)
 
 pub record Widest (lo hi z k : ℕ) : Type 0 where
   pub lies : Lies lo hi k z
-  pub top : Lies lo hi (k + 1) z → ⊥
+  pub top : Lies lo hi (suc k) z → ⊥

@@ -3,13 +3,13 @@
 ghost use mathlib.Core.Path.{_≡_};
 ghost use Prim.Native.Nat.{_^_, _<_, _≤_};
 ghost use lib.ListN.{length};
-ghost use Rattle.basics.specs.Test.{Test};
 ghost use Rattle.tile.specs.Tile.{tileOf, highestOrder};
 ghost use Rattle.tile.specs.Slots.{tilesIn};
 ghost use Rattle.quadtree.specs.Valid.{Valid};
+ghost use Rattle.quadtree.specs.Tiling.{Without};
 ghost use Rattle.lookup.specs.Block.{blockAt};
 ghost use Rattle.lookup.specs.Lookup.{lookupCheck, foundOf, lookupOf};
-ghost use Rattle.lookup.specs.Stretch.{stretchFrom, stretchUpto, Lies, Widest};
+ghost use Rattle.lookup.specs.Stretch.{stretchFrom, stretchUpto, Widest};
 
 // Lookup's answer: the block that has the pixel, and its account.
 #[repr(C)]
@@ -65,28 +65,29 @@ fn stretch_upto(order: u32, tiles: usize, slots: &[u32], place: usize) -> u32
     tile::area(order)
 }
 
-// Does the block of a size that has z lie in a stretch?
-fn lies(from: u32, upto: u32, size: u32, z: u32) -> bool
-    requires { ⌜ (size ≤ 15) × (z < 4 ^ highestOrder) ⌝ }
-    ensures { λ r. ⌜ Test (Lies from upto size z) r ⌝ }
+// The size of the largest block that has z and not y: half the place of the highest bit in which the two differ.
+fn size_without(z: u32, y: u32) -> u32
+    requires { ⌜ (z ≡ y → ⊥) ⌝ }
+    ensures { λ r. ⌜ Without z y r ⌝ }
 {
-    let corner = tile::corner_at(size, z);
-    if corner < from {
-        return false;
-    }
-    corner + tile::area(size) <= upto
+    (31 - u32::leading_zeros(z ^ y)) / 2
 }
 
-// The size of the largest block that has z and lies in a stretch.
+// The size of the largest block that has z and lies in a stretch: it has neither the pixel behind the stretch nor the
+// one ahead of it.
 fn widest(from: u32, upto: u32, z: u32) -> u32
-    requires { ⌜ (from ≤ z) × (z < upto) × (upto ≤ 4 ^ highestOrder) ⌝ }
+    requires { ⌜ (from ≤ z) × (z < upto) ⌝ }
     ensures { λ r. ⌜ Widest from upto z r ⌝ }
 {
-    let mut size = 0;
-    while lies(from, upto, size + 1, z) {
-        size += 1;
+    let behind = size_without(z, upto);
+    if from == 0 {
+        return behind;
     }
-    size
+    let ahead = size_without(z, from - 1);
+    if ahead < behind {
+        return ahead;
+    }
+    behind
 }
 
 // The block that a valid list has at the Morton number z: only the last tile that starts by z can cover it, and else

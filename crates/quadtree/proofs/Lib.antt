@@ -12,6 +12,7 @@
 --     Change      valid lists changed by one tile or more, by membership alone
 --     Merge       merging
 --     TrailingZeros   the largest block that starts or ends at a number, by its trailing zeros
+--     HighestBit  the largest block that has one number and not another, by the highest bit in which they differ
 --     CutExamples   runs and stretches cut, computed
 --     Cuts        stretches cut into blocks, block by block
 --     Rest        the linear quadtree from a Morton number on
@@ -30,6 +31,7 @@ pub mod Least
 pub mod Change
 pub mod Merge
 pub mod TrailingZeros
+pub mod HighestBit
 pub mod CutExamples
 pub mod Cuts
 pub mod Rest

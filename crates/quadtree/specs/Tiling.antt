@@ -1,5 +1,7 @@
 -- Inner: tilings: lists of tiles that tile a stretch of a raster. Definitions only.
 --     Levels e l           blocks start and end at e up to the size l, and no larger one
+--     Has k z y            the block of size k that has z has y too
+--     Without z y k        k is the largest size of a block that has z and not y
 --     On f t               t is aligned, somebody's, and the raster f has its account on all of it
 --     Next f lo t          t is the next tile at or behind lo: what lies between is nobody's
 --     Tiling f hi lo ts    ts tiles the raster f from lo up to hi, by rising corner, with no overlap
@@ -9,13 +11,20 @@
 use mathlib.Core.Path.{_≡_}
 use mathlib.Core.List.{List, [], _∷_, _++_}
 use Prim.Native.Nat.{ℕ, zero, suc, _+_, _-_, _*_, _^_, _≤_, _<_}
-use Rattle.tile.specs.Tile.{Tile, tile, stop, highestOrder}
+use Rattle.tile.specs.Tile.{Tile, tile, stop, cornerAt, highestOrder}
 use Rattle.quadtree.specs.Raster.{Aligned, Uniform}
 
 pub record Levels (e l : ℕ) : Type 0 where
   pub few : l ≤ highestOrder
   pub ends : Aligned l e
   pub over : Aligned (suc l) e → ⊥
+
+abbrev pub Has : ℕ → ℕ → ℕ → Type 0
+Has k z y = (cornerAt k z ≤ y) × (y < cornerAt k z + 4 ^ k)
+
+pub record Without (z y k : ℕ) : Type 0 where
+  pub short : Has k z y → ⊥
+  pub over : Has (suc k) z y
 
 pub record On (f : ℕ → ℕ) (t : Tile) : Type 0 where
   pub aligned : Aligned (t .size) (t .corner)

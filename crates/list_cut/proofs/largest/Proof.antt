@@ -1,7 +1,8 @@
 -- What can start, or what has room, whichever is smaller: `greedy-starts`, `greedy-room`.
 use Prim.Native.Nat.{_-_}
 use native.Mathlib.Omega.{arith}
-use Rattle.list_cut.proofs.Sizes.{zeros-few, greedy-starts, greedy-room}
+use Rattle.quadtree.proofs.HighestBit.{zeros-few}
+use Rattle.list_cut.proofs.Sizes.{greedy-starts, greedy-room}
 use borrow.Author.Needs.{needs}
 use Rattle.list_cut.proofs.largest.Statement.{statement}
 use Rattle.list_cut.proofs.largest.Tie as tie

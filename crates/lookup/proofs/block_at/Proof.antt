@@ -60,9 +60,7 @@ shared-slice-read-tile-found : tie.Need-shared-slice-read-tile-found
 shared-slice-read-tile-found c = omega (arith, ahead (c .before), c .before .before .before .cut .ensures .to)
 
 widest-requires : tie.Need-widest-requires
-widest-requires c κs =
-    let w = stretch c in
-    (w .from, w .upto, omega (arith, w .room, area-mono (c .before .before .before .before .before .pre .0)))
+widest-requires c κs = let w = stretch c in (w .from, w .upto)
 
 corner-at-requires : tie.Need-corner-at-requires
 corner-at-requires c κs =

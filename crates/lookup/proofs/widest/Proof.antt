@@ -1,41 +1,33 @@
--- The block of the size so far lies in the stretch; each larger one is asked for once.
-use Prim.Native.Nat.{_+_, _-_, _≤_}
+-- What lies behind the stretch and what lies ahead of it, whichever leaves less room.
 use native.Mathlib.Omega.{arith}
 use borrow.Author.Needs.{needs}
-use Rattle.tile.specs.Tile.{highestOrder}
-use Rattle.basics.proofs.Tests.{told-true, told-false}
-use Rattle.quadtree.proofs.Alignment.{size-le}
-use Rattle.lookup.specs.Stretch.{Lies}
+use Rattle.lookup.proofs.StretchLaws.{widest-first, widest-ahead, widest-behind}
 use Rattle.lookup.proofs.widest.Statement.{statement}
 use Rattle.lookup.proofs.widest.Tie as tie
 
-abbrev Inv-loop : tie.InvT-loop
-Inv-loop from upto z size₀ size = (size ≤ highestOrder) × Lies from upto size z
+returns : tie.Need-returns
+returns c = widest-first (c .before .size-without .ensures) (c .before .before .pre .1) (c .if1 .taken)
 
-abbrev μ-loop : tie.MeasureT-loop
-μ-loop from upto z size₀ size = highestOrder - size
+returns-2 : tie.Need-returns-2
+returns-2 c =
+    let p = c .before .before .before .before .pre in
+    let size-without = c .before .before .before .size-without in
+    let if1 = c .before .before .if1 in
+    widest-ahead (size-without .ensures) (p .1) (omega (arith, if1 .left)) (c .before .size-without2 .ensures) (p .0) (c .if2 .taken)
 
--- in a turn the larger block lies in the stretch, and so in the largest bed
-larger : (c : tie.Then1 Inv-loop μ-loop) →
-    let a = c .before .before .before .args in
-    let size = c .before .before .loop .size in
-    (size + 1 ≤ highestOrder) × Lies (a .from) (a .upto) (size + 1) (a .z)
-larger c =
-    let lies = told-true (c .before .lies .ensures) (c .if1 .taken) in
-    (size-le (c .before .before .loop .size + 1) highestOrder (omega (arith, lies .1, c .before .before .before .pre .2)), lies)
+returns-3 : tie.Need-returns-3
+returns-3 c =
+    let p = c .before .before .before .before .pre in
+    let size-without = c .before .before .before .size-without in
+    let if1 = c .before .before .if1 in
+    widest-behind (size-without .ensures) (p .1) (omega (arith, if1 .left)) (c .before .size-without2 .ensures) (p .0) (c .if2 .left)
 
-returns : tie.Need-returns Inv-loop μ-loop
-returns c = record { lies = c .before .before .loop .inv .1; top = told-false (c .before .lies .ensures) (c .if1 .left) }
+size-without-requires : tie.Need-size-without-requires
+size-without-requires c κs = λ e. omega (arith, c .pre .1)
 
-loop-holds : tie.Need-loop-holds Inv-loop μ-loop
-loop-holds c = (omega arith, (omega arith, omega arith))
-
-loop-less : tie.Need-loop-less Inv-loop μ-loop
-loop-less c = omega (arith, larger c .0)
-
-loop-again : tie.Need-loop-again Inv-loop μ-loop
-loop-again c = larger c
+size-without-requires-2 : tie.Need-size-without-requires-2
+size-without-requires-2 c κs = λ e. omega (arith, c .before .before .pre .0, c .if1 .left)
 
 pub widest-spec : {M : Type 1} → statement M
 widest-spec =
-    tie.close (tie.spec Inv-loop μ-loop loop-holds (λ c. search needs) (λ c κs. search needs) (λ c. search needs) loop-less loop-again returns)
+    tie.close (tie.spec size-without-requires returns (λ c. search needs) size-without-requires-2 returns-2 returns-3)
