@@ -1,6 +1,6 @@
-/* A host program for the library: scans a bed with some boards on it, claims a block, shows the bed on a panel, goes over
-   it with a head, asks who may place where and what lies in the reserved zones, archives the map and reads it back, and
-   is refused something.
+/* A host program for the library: scans a bed with some boards on it, claims a block, shows the bed on a panel, goes
+   over it with a head, asks who may place where and what lies in the reserved zones, archives the map and reads it
+   back, and is refused something.
 
        gcc -O2 -Iinclude examples/beds.c target/staticlib/libkingletbed.a -o target/beds
        target/beds [MAP FILE]        bed.map unless named; kbmap draws it */

@@ -201,9 +201,9 @@ KB_MUST_USE uint32_t kb_decode(uint32_t order, size_t tiles, const uint32_t *slo
                                uint8_t *raster, size_t raster_length);
 
 /* The account at a pixel, 0 for nobody's, and the largest block with the pixel in it that has this account on all its
-   pixels: for somebody's pixel its tile, for nobody's the largest block that is wholly free. The answer is that of every
-   pixel of the block and of no other: a head that stays inside of it need not ask again while the map stays as it is
-   (kb_lookup_has). An unscanned pixel counts as nobody's.
+   pixels: for somebody's pixel its tile, for nobody's the largest block that is wholly nobody's. The answer is that of
+   every pixel of the block and of no other: a head that stays inside of it need not ask again while the map stays as it
+   is (kb_lookup_has). An unscanned pixel counts as nobody's.
      refuses   the list checks, KB_POINT_OUTSIDE; account, corner and size are then 0 as well, and say nothing: a free
                pixel in the corner of a bed has these too, so look at the number first
      storage   nothing is written */
@@ -293,8 +293,8 @@ KB_MUST_USE kb_combine_answer kb_combine(uint32_t choice,
                                          uint32_t order2, size_t tiles2, const uint32_t *slots2, size_t slots2_length,
                                          uint32_t *out, size_t out_length);
 
-/* 1 if a pixel lies in the block that a lookup named, so that kb_lookup there would answer the same, while the map stays
-   as it is; else 0. A refused lookup has none. Numbers of 64 bits are taken, and none is cut. */
+/* 1 if a pixel lies in the block that a lookup named, so that kb_lookup there would answer the same, while the map
+   stays as it is; else 0. A refused lookup has none. Numbers of 64 bits are taken, and none is cut. */
 KB_MUST_USE static inline uint8_t kb_lookup_has(kb_lookup_answer found, uint64_t column, uint64_t row)
 {
     kb_block_answer block = kb_block(KB_HIGHEST_ORDER, kb_number_word(column), kb_number_word(row), found.size);

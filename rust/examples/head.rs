@@ -1,5 +1,5 @@
-//! A head that goes over a bed row after row, to and fro, and asks whose ground is under it only where it leaves the block
-//! that the last lookup named.
+//! A head that goes over a bed row after row, to and fro, and asks whose ground is under it only where it leaves the
+//! block that the last lookup named.
 //!
 //!     cargo run --example head
 

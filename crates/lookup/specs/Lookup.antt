@@ -1,5 +1,5 @@
--- Lookup (document 01, "Other calls"; document 02, request 4): the account at a column and a row, and the block that has
--- it. Definitions only.
+-- Lookup (document 01, "Other calls"; document 02, request 4): the account at a column and a row, and the block that
+-- has it. Definitions only.
 --     lookupCheck ..          1, 2, 11 to 16, then 31
 --     foundOf b               the answer that names the block b
 --     lookupOf n t slots c r  the offered call

@@ -112,8 +112,8 @@ pub fn block_at(order: u32, tiles: usize, slots: &[u32], z: u32) -> Found
     }
 }
 
-// The offered call: the account at a column and a row, 0 for nobody, and the block that has it: the tile, or the largest
-// quadrant block that is wholly nobody's. Refused, the first refusal and 0 in all else.
+// The offered call: the account at a column and a row, 0 for nobody, and the block that has it: the tile, or the
+// largest quadrant block that is wholly nobody's. Refused, the first refusal and 0 in all else.
 pub fn lookup(order: u32, tiles: usize, slots: &[u32], column: u32, row: u32) -> Found
     ensures { λ r. ⌜ r ≡ lookupOf order tiles (now (slots .entry)) column row ⌝ }
 {

@@ -44,14 +44,15 @@ ahead c =
 
 -- the stretch that code found
 stretch : (c : tie.After-stretch-upto) →
-    let s = c .before .before .before .before .before in
-    Stretch (accountAt (tilesIn (s .args .tiles) (s .args .slots .now))) (4 ^ s .args .order) (c .before .before .stretch-from .result) (c .stretch-upto .result) (s .args .z)
+    let a = c .before .before .before .before .before .args in
+    let from = c .before .before .stretch-from .result in
+    Stretch (accountAt (tilesIn (a .tiles) (a .slots .now))) (4 ^ a .order) from (c .stretch-upto .result) (a .z)
 stretch c =
     let s = c .before .before .before .before .before in
     let cut = c .before .before .before .cut in
     let from = c .before .before .stretch-from .ensures in
-    rw (from, c .stretch-upto .ensures) (place-stretch (s .args .order) (s .args .tiles) (s .args .slots .now) (s .pre .2) (s .pre .3) (s .args .z) (cut .result)
-    (cut .ensures) (s .pre .1) (omega (arith, from, c .before .if1 .left)))
+    rw (from, c .stretch-upto .ensures) (place-stretch (s .args .order) (s .args .tiles) (s .args .slots .now) (s .pre .2) (s .pre .3)
+    (s .args .z) (cut .result) (cut .ensures) (s .pre .1) (omega (arith, from, c .before .if1 .left)))
 
 sub-tile-found : tie.Need-sub-tile-found
 sub-tile-found c = omega (arith, ahead c)

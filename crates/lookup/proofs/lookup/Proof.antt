@@ -21,7 +21,8 @@ returns-2 c =
 block-at-requires : tie.Need-block-at-requires
 block-at-requires c κs =
     let a = c .before .before .before .before .args in
-    let p = lookupCheck-passed (a .order) (a .tiles) (a .slots .now) (a .column) (a .row) (sym (c .before .before .lookup-check .ensures) ∙ c .before .if1 .left) in
+    let e = sym (c .before .before .lookup-check .ensures) ∙ c .before .if1 .left in
+    let p = lookupCheck-passed (a .order) (a .tiles) (a .slots .now) (a .column) (a .row) e in
     let z = c .number .ensures ∙ point-number (a .order) (a .tiles) (a .slots .now) (a .column) (a .row) p in
     (p .order, rw z (morton-lt (a .order) (a .column) (a .row)), p .count, p .valid)
 
