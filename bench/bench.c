@@ -273,7 +273,7 @@ static void print(const struct table *table, struct bench *b, uint32_t lowest, u
 }
 
 /* The table of lookups on a bed with one held pixel, in its north-western corner: there, beside it, and in the free
-   quarter of the bed that lies farthest from it. */
+   south-eastern quarter of the bed. */
 static void lookups(uint32_t lowest, uint32_t highest)
 {
     static const uint32_t word = 9;
@@ -282,18 +282,18 @@ static void lookups(uint32_t lowest, uint32_t highest)
            "library's time divided by that\nof straightforward C.\n\n"
            "| order | the held pixel | a free pixel beside it | a free quarter of the bed |\n|---|---|---|---|\n");
     for (uint32_t order = lowest; order <= highest; order++) {
-        const uint32_t places[] = {0, 1, (1u << order) - 1};
+        const uint32_t last = (1u << order) - 1, places[][2] = {{0, 0}, {1, 0}, {last, last}};
         printf("| %u ", order);
         for (size_t i = 0; i < sizeof places / sizeof *places; i++) {
-            uint32_t at = places[i];
-            kb_lookup_answer one = kb_lookup(order, 1, &word, 1, at, at / 2);
-            kb_lookup_answer other = straight_lookup(order, 1, &word, 1, at, at / 2);
+            uint32_t column = places[i][0], row = places[i][1];
+            kb_lookup_answer one = kb_lookup(order, 1, &word, 1, column, row);
+            kb_lookup_answer other = straight_lookup(order, 1, &word, 1, column, row);
             if (one.account != other.account || one.corner != other.corner || one.size != other.size) {
                 fprintf(stderr, "bench: straightforward C names another block\n");
                 exit(1);
             }
-            BOTH(ours, must(kb_lookup(order, 1, &word, 1, at, at / 2).number),
-                 straight, must(straight_lookup(order, 1, &word, 1, at, at / 2).number));
+            BOTH(ours, must(kb_lookup(order, 1, &word, 1, column, row).number),
+                 straight, must(straight_lookup(order, 1, &word, 1, column, row).number));
             cell(&ours, &straight, 1);
         }
         printf("|\n");

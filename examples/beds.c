@@ -85,8 +85,8 @@ static void claim(kb_scan *scan)
 }
 
 /* The panel: 16 by 16 cells, each a block of 4 by 4 pixels. A cell under a larger tile has no tile inside and is held
-   all the same: drawn by the tiles of kb_scan_part it would look free. One lookup at its corner tells: where the block
-   that it names is as large as the cell, the cell has one account, and else it has not. */
+   all the same: drawn by the tiles of kb_scan_part it would look free. One lookup in it tells: where the block that it
+   names is at least as large as the cell, the cell has one account, and else it has not. */
 #define CELLS 16
 #define CELL_SIZE 2
 #define CELL_SIDE (SIDE / CELLS)
@@ -117,7 +117,7 @@ static void panel(const kb_scan *scan)
 static void head(const kb_scan *scan)
 {
     int asked = 0;
-    kb_lookup_answer found = {KB_POINT_OUTSIDE, 0, 0, 0}; /* nothing is known yet */
+    kb_lookup_answer found = KB_NO_LOOKUP;
     for (uint32_t row = 0; row < SIDE; row++)
         for (uint32_t step = 0; step < SIDE; step++) {
             uint32_t column = row % 2 == 0 ? step : SIDE - 1 - step;

@@ -201,11 +201,11 @@ KB_MUST_USE uint32_t kb_decode(uint32_t order, size_t tiles, const uint32_t *slo
                                uint8_t *raster, size_t raster_length);
 
 /* The account at a pixel, 0 for nobody's, and the largest block with the pixel in it that has this account on all its
-   pixels: for somebody's pixel its tile, for nobody's the largest block that is wholly nobody's. The answer is that of
-   every pixel of the block and of no other: a head that stays inside of it need not ask again while the map stays as it
-   is (kb_lookup_has). An unscanned pixel counts as nobody's.
-     refuses   the list checks, KB_POINT_OUTSIDE; account, corner and size are then 0 as well, and say nothing: a free
-               pixel in the corner of a bed has these too, so look at the number first
+   pixels: for somebody's pixel its tile, for nobody's the largest block that is wholly nobody's. Every pixel of the
+   block gives this answer and no other pixel does, and kb_rights answers alike on all of it: a head that stays inside
+   need not ask again while the map stays as it is (kb_lookup_has). An unscanned pixel counts as nobody's.
+     refuses   the list checks, KB_POINT_OUTSIDE; account, corner and size are then 0, which says nothing: nobody's
+               pixel (0, 0) can have these too, so look at the number first
      storage   nothing is written */
 KB_MUST_USE kb_lookup_answer kb_lookup(uint32_t order, size_t tiles, const uint32_t *slots, size_t slots_length,
                                        uint32_t column, uint32_t row);
@@ -213,9 +213,8 @@ KB_MUST_USE kb_lookup_answer kb_lookup(uint32_t order, size_t tiles, const uint3
 /* The tiles that lie wholly inside a block: `length` tiles of the list from `position` on. The position is the number
    of tiles with a smaller corner than the block's. kb_part_tiles gives a pointer instead.
    A block under a larger tile has no tile inside: an EMPTY PART MAY BE HELD GROUND, and a panel that draws the part's
-   tiles shows it as free. One kb_lookup at the block's corner (kb_point has its column and row) tells: if it names a
-   block of this size or a larger one, the whole block has the account answered, and else it has not one account.
-   kb_scan_shown does so.
+   tiles shows it as free. One kb_lookup at any pixel of the block tells: if it names a block of this size or a larger
+   one, the whole block has the account answered, and else it has not one account. kb_scan_shown does so.
      refuses   the list checks, KB_BLOCK_INVALID
      storage   nothing is written */
 KB_MUST_USE kb_part_answer kb_part(uint32_t order, size_t tiles, const uint32_t *slots, size_t slots_length,
@@ -294,7 +293,9 @@ KB_MUST_USE kb_combine_answer kb_combine(uint32_t choice,
                                          uint32_t *out, size_t out_length);
 
 /* 1 if a pixel lies in the block that a lookup named, so that kb_lookup there would answer the same, while the map
-   stays as it is; else 0. A refused lookup has none. Numbers of 64 bits are taken, and none is cut. */
+   stays as it is; else 0. A refused lookup names no block: 0. Numbers of 64 bits are taken, and none is cut.
+   A head that has not asked yet begins with KB_NO_LOOKUP, not with zeros: they say that pixel (0, 0) is nobody's. */
+#define KB_NO_LOOKUP {KB_POINT_OUTSIDE, 0, 0, 0}
 KB_MUST_USE static inline uint8_t kb_lookup_has(kb_lookup_answer found, uint64_t column, uint64_t row)
 {
     kb_block_answer block = kb_block(KB_HIGHEST_ORDER, kb_number_word(column), kb_number_word(row), found.size);
@@ -441,10 +442,10 @@ KB_MUST_USE static inline kb_shown_answer kb_scan_shown(const kb_scan *scan, uin
 {
     kb_part_tiles_answer part = kb_scan_part(scan, corner, size);
     kb_shown_answer shown = {part.number, part.tiles, part.length, KB_NO_ACCOUNT};
-    if (part.number == KB_ACCEPTED) { /* so that the corner is a pixel's, and the lookup there is accepted */
+    if (part.number == KB_ACCEPTED && part.length < 2) { /* two tiles in a block are not all of it */
         kb_point_answer at = kb_point(scan->order, kb_number_word(corner));
         kb_lookup_answer found = kb_scan_lookup(scan, at.column, at.row);
-        if (found.number == KB_ACCEPTED && size <= found.size)
+        if (found.number == KB_ACCEPTED && size <= found.size) /* a refusal, of size 0, must not look free */
             shown.account = found.account;
     }
     return shown;

@@ -1,7 +1,6 @@
 //! A panel that draws a bed one block of 2 by 2 pixels at a time, and the trap in it: a block under a larger tile has
-//! no tile inside, so that a panel which draws the block's part shows held ground as free. One lookup at the block's
-//! corner tells: where it finds a block as large as this one, this one has one account, and else its tiles are inside.
-//! `Bed::shown` gives the same as tiles.
+//! no tile inside, so that a panel which draws the block's part shows held ground as free. One lookup tells whether a
+//! block has one account; where it has not, its part has its tiles. `Bed::shown` gives the same as tiles.
 //!
 //!     cargo run --example panel
 
@@ -38,9 +37,8 @@ pub fn panel(text: &mut String) -> Result<(), Box<dyn Error>> {
         for tile in inside.clone() {
             wrong.paint(tile.block(), tile.account())?;
         }
-        let found = bed.lookup(block.pixel()?)?;
-        if found.block.size >= block.size {
-            right.paint(block, found.account)?;
+        if let Some(account) = bed.account_of(block)? {
+            right.paint(block, account)?;
         } else {
             for tile in inside {
                 right.paint(tile.block(), tile.account())?;

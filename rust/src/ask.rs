@@ -121,9 +121,9 @@ impl<S: AsRef<[u32]>> Bed<S> {
         Tiles::of_words(self.words())
     }
 
-    /// The account at a pixel, and the largest block with the pixel in it that is all of this account: the tile, or
-    /// for nobody's pixel the largest block that is wholly nobody's. Just the pixels of that block are found with this
-    /// answer: a head that stays inside of it need not ask again while the bed stays as it is.
+    /// Whose a pixel is, and the largest block with the pixel in it that is all of this account: see [`Found`]. Every
+    /// pixel of that block gives this answer, and no other pixel does; [`rights`](Bed::rights) answers alike on all of
+    /// it. So a head that stays inside need not ask again while the bed stays as it is.
     ///
     /// ```
     /// use kingletbed::{Account, Bed, Block, Found, Pixel, Refusal};
@@ -203,9 +203,29 @@ impl<S: AsRef<[u32]>> Bed<S> {
         Ok(slots.get(answer.position..).and_then(|rest| rest.get(..answer.length)).unwrap_or_default())
     }
 
-    /// What a block shows, by rising corner: the tiles inside it, or where a larger tile covers it that tile, cut to
-    /// the block. Every pixel of the block that is somebody's is in one of them, and they are what a bed of the block
-    /// alone would have for tiles.
+    /// The account that has all of a block, nobody's too; nothing if it has not one account. It takes one lookup.
+    ///
+    /// ```
+    /// use kingletbed::{Account, Bed, Block, Refusal};
+    /// let bed = Bed::from_slots(2, 4, [69, 7177, 8201, 12361])?;
+    /// assert_eq!(bed.account_of(Block { corner: 13, size: 0 }), Ok(Some(Account(9)))); // under the tile SE
+    /// assert_eq!(bed.account_of(Block { corner: 9, size: 0 }), Ok(Some(Account::NOBODY)));
+    /// assert_eq!(bed.account_of(Block { corner: 4, size: 1 }), Ok(None));
+    /// assert_eq!(bed.account_of(Block { corner: 5, size: 1 }), Err(Refusal::BlockInvalid));
+    /// # Ok::<(), kingletbed::Refusal>(())
+    /// ```
+    pub fn account_of(&self, block: Block) -> Result<Option<Account>, Refusal> {
+        let at = Pixel::of_morton(self.order, block.corner)?;
+        if Block::around(self.order, at, block.size)? != block {
+            return Err(Refusal::BlockInvalid);
+        }
+        let found = self.lookup(at)?;
+        Ok((found.block.size >= block.size).then_some(found.account))
+    }
+
+    /// What a block shows, by rising corner: the tiles inside it, or where one tile covers it that tile, cut to the
+    /// block. Every pixel of the block that is somebody's is in one of them, and they are what a bed of the block alone
+    /// would have for tiles.
     ///
     /// ```
     /// use kingletbed::{Account, Bed, Block};
@@ -218,13 +238,12 @@ impl<S: AsRef<[u32]>> Bed<S> {
     /// # Ok::<(), kingletbed::Refusal>(())
     /// ```
     pub fn shown(&self, block: Block) -> Result<Shown<'_>, Refusal> {
-        let inside = self.part(block)?;
-        let found = self.lookup(Pixel::of_morton(self.order, block.corner)?)?;
-        if found.block.size > block.size && found.account != Account::NOBODY {
-            let over = Tile::over(self.order, block, found.account)?;
-            return Ok(Shown::new(Tiles::of_words(&[]), Some(over)));
-        }
-        Ok(Shown::new(Tiles::of_words(inside), None))
+        let over = match self.account_of(block)? {
+            None => return Ok(Shown::new(Tiles::of_words(self.part(block)?), None)),
+            Some(Account::NOBODY) => None,
+            Some(account) => Some(Tile::over(self.order, block, account)?),
+        };
+        Ok(Shown::new(Tiles::of_words(&[]), over))
     }
 
     /// Writes the account of each pixel, row after row. The raster has [`pixels`](Bed::pixels) bytes.

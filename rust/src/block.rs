@@ -92,7 +92,7 @@ impl Block {
         Block { corner: 0, size: order }
     }
 
-    /// Whether the block has a pixel in it. One that is no block, or off the largest bed, has none.
+    /// Whether a pixel lies in the block. None lies in what is no block, or off the largest bed.
     ///
     /// ```
     /// use kingletbed::{Block, Pixel};
@@ -102,6 +102,7 @@ impl Block {
     /// assert!(!Block { corner: 13, size: 1 }.has(Pixel { column: 3, row: 2 }));
     /// ```
     #[must_use]
+    #[doc(alias = "contains")]
     pub fn has(self, pixel: Pixel) -> bool {
         Block::around(HIGHEST_ORDER, pixel, self.size) == Ok(self)
     }

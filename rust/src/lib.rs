@@ -4,7 +4,8 @@
 //! nobody's. A [`Bed`] has its slots, by value or by borrow, and in them a word for each of its [`Tile`]s: the largest
 //! blocks of one account, by rising Morton number. It is filled from account bytes, by rows or in Morton order, read
 //! from a file, made of slots that have a list already, or combined of two beds: the first's pixels inside the second's
-//! held ground, or outside it.
+//! held ground, or outside it. A lookup tells whose a pixel is, and the largest block around it that is all of that
+//! account.
 //!
 //! ```
 //! use kingletbed::{Account, Bed, Block, Kind, Pixel};

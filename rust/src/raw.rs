@@ -107,7 +107,7 @@ pub fn decode(order: u32, tiles: usize, slots: &[u32], raster: &mut [u8]) -> u32
     unsafe { kb_decode(order, tiles, slots.as_ptr(), slots.len(), raster.as_mut_ptr(), raster.len()) }
 }
 
-/// `kb_lookup`. The account at a pixel, and the largest block with the pixel that is all of this account.
+/// `kb_lookup`. The account at a pixel and the block that has it: as [`Bed::lookup`](crate::Bed::lookup) gives them.
 ///
 /// ```
 /// use kingletbed::raw;

@@ -178,8 +178,8 @@ impl fmt::Debug for Tiles<'_> {
 impl ExactSizeIterator for Tiles<'_> {}
 impl FusedIterator for Tiles<'_> {}
 
-/// What a block shows, by rising corner, from [`Bed::shown`](crate::Bed::shown): the tiles inside it, or the tile over
-/// it cut to it.
+/// What a block shows, by rising corner, from [`Bed::shown`](crate::Bed::shown): the tiles inside it, or the one over
+/// all of it, cut to it.
 ///
 /// ```
 /// use kingletbed::{Bed, Block, Shown};
@@ -193,7 +193,7 @@ impl FusedIterator for Tiles<'_> {}
 pub struct Shown<'a> {
     /// The tiles inside the block; none when `over` is one.
     inside: Tiles<'a>,
-    /// The tile over the block, cut to it.
+    /// The tile over all of the block, cut to it.
     over: Option<Tile>,
 }
 

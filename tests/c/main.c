@@ -25,6 +25,7 @@ int main(void)
     test_wide();
     test_file();
     test_lookup();
+    test_lookup_has();
     test_shown();
     test_many_claims();
     test_combine();

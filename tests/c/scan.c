@@ -1,4 +1,4 @@
-/* The scan with its slots: what each function leaves in it, and what a block shows. */
+/* The scan with its slots: what each function leaves in it, what a lookup names, and what a block shows. */
 #include "test.h"
 
 #include <string.h>
@@ -212,11 +212,11 @@ static void finds_alike(const kb_scan *scan)
     uint32_t side = kb_extent(scan->order).side;
     for (uint32_t pixel = 0; pixel < side * side; pixel++) {
         kb_lookup_answer found = kb_scan_lookup(scan, pixel % side, pixel / side);
-        CHECK(found.number == KB_ACCEPTED && found.corner <= kb_morton(scan->order, pixel % side, pixel / side).morton);
+        CHECK(found.number == KB_ACCEPTED && kb_lookup_has(found, pixel % side, pixel / side));
         for (uint32_t other = 0; other < side * side; other++)
             CHECK(kb_lookup_has(found, other % side, other / side)
                   == alike(kb_scan_lookup(scan, other % side, other / side), found));
-        CHECK(!kb_lookup_has(found, side, pixel / side) && !kb_lookup_has(found, UINT64_C(1) << 32, pixel / side));
+        CHECK(!kb_lookup_has(found, side, pixel / side) && !kb_lookup_has(found, pixel % side, side));
     }
 }
 
@@ -234,13 +234,26 @@ void test_lookup(void)
     CHECK(kb_scan_claim(&scan, 0, 2, 0) == KB_ACCEPTED && finds(&scan, 2, 0, 0, 0, 2));
     finds_alike(&scan);
 
-    kb_lookup_answer refused = kb_scan_lookup(&scan, 4, 0);
-    CHECK(refused.number == KB_POINT_OUTSIDE && refused.account == 0 && refused.corner == 0 && refused.size == 0);
-    CHECK(!kb_lookup_has(refused, 0, 0));
+    const kb_lookup_answer outside = KB_NO_LOOKUP, zero = {KB_ACCOUNT_ZERO, 0, 0, 0};
+    CHECK(alike(kb_scan_lookup(&scan, 4, 0), outside) && !kb_lookup_has(outside, 0, 0));
     slots[0] = 0;
     scan.tiles = 1;
-    refused = kb_scan_lookup(&scan, 3, 3);
-    CHECK(refused.number == KB_ACCOUNT_ZERO && refused.account == 0 && refused.corner == 0 && refused.size == 0);
+    CHECK(alike(kb_scan_lookup(&scan, 3, 3), zero) && !kb_lookup_has(zero, 0, 0));
+}
+
+/* What lies in a block at the edges: the last pixel of the largest bed, past it, and numbers that are no block. */
+void test_lookup_has(void)
+{
+    const uint64_t past[3] = {1024, (uint64_t)1 << 32, UINT64_MAX};
+    const kb_lookup_answer whole = {KB_ACCEPTED, 0, 0, 10}, last = {KB_ACCEPTED, 7, 1048575, 0};
+    const kb_lookup_answer turned = {KB_ACCEPTED, 7, 5, 1}, larger = {KB_ACCEPTED, 0, 0, 11};
+    const kb_lookup_answer off = {KB_ACCEPTED, 7, 1048576, 0};
+    CHECK(kb_lookup_has(whole, 0, 0) && kb_lookup_has(whole, 1023, 1023) && kb_lookup_has(last, 1023, 1023));
+    CHECK(!kb_lookup_has(last, 1022, 1023) && !kb_lookup_has(last, 1023, 1022));
+    for (int i = 0; i < 3; i++)
+        CHECK(!kb_lookup_has(whole, past[i], 0) && !kb_lookup_has(whole, 0, past[i]));
+    CHECK(!kb_lookup_has(turned, 3, 0) && !kb_lookup_has(turned, 2, 0));
+    CHECK(!kb_lookup_has(larger, 0, 0) && !kb_lookup_has(off, 0, 0));
 }
 
 /* Each block of a bed shows what its pixels are. */
@@ -311,6 +324,8 @@ void test_many_claims(void)
         CHECK(kb_scan_lookup(&scan, column, row).account == account);
         if (turn % 20 == 0)
             shows(&scan);
+        if (turn % 100 == 0)
+            finds_alike(&scan);
     }
     CHECK(kb_scan_check(&scan) == KB_ACCEPTED && scan.pixels == 256);
 }

@@ -33,6 +33,7 @@ void test_accounts(void);
 void test_wide(void);
 void test_file(void);
 void test_lookup(void);
+void test_lookup_has(void);
 void test_shown(void);
 void test_many_claims(void);
 void test_combine(void);

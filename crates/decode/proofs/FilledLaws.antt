@@ -14,9 +14,9 @@ use native.Mathlib.Decide.{decLt}
 use native.Mathlib.Nat.{mul-le-mul-right, pow-le-pow-right}
 use lib.ListN.{length, set, length-set}
 use lib.Seq.{getD-set-same, getD-set-other}
-use Rattle.morton.specs.Morton.{column, row, sideBits}
+use Rattle.morton.specs.Morton.{column, row, Square, sideBits}
 use Rattle.morton.proofs.MortonLaws.{column-lt, column-wide, row-wide}
-use Rattle.morton.proofs.Squares.{Square, block-square, square-block, column-room, row-room}
+use Rattle.morton.proofs.Squares.{block-square, square-block, column-room, row-room}
 use Rattle.tile.specs.Tile.{Tile, highestOrder}
 use Rattle.quadtree.specs.Raster.{Covers, Quadrant}
 use Rattle.quadtree.proofs.Alignment.{cmp, below, same, above}
@@ -94,7 +94,7 @@ covers-square {n} {t} z q c =
 square-covers : {n : ℕ} {t : Tile} (z : ℕ) → Quadrant n t → z < 4 ^ n → Within (column n (t .corner)) (row n (t .corner)) (2 ^ t .size) (2 ^ t .size) (column n z) (row n z) → Covers t z
 square-covers {n} {t} z q h w =
     let e = q .aligned .is in
-    let s : Square n (t .size) (t .corner) z = record { west = w .west; east = w .east; north = w .north; south = w .south } in
+    let s : Square n (t .size) (t .corner) (column n z) (row n z) = record { west = w .west; east = w .east; north = w .north; south = w .south } in
     let b = square-block n (t .size) (q .aligned .times) z (q .fits) (omega (arith, q .inside)) h (rw e at s) in
     (omega (arith, b .0), omega (arith, b .1))
 

@@ -24,7 +24,7 @@ use Rattle.lookup.specs.Block.{tileAt, freeSize, freeBlock, blockAt, Nam
 
 module _ {n : ℕ} {f : ℕ → ℕ} {z : ℕ} where
   names-below : {b d : Tile} → Names n f z b → Names n f z d → b .account ≡ d .account → b .size < d .size → ⊥
-  names-below {b} {d} p q e h = p .top (d .size) (d .corner) h (q .fits) (q .aligned) (q .has .0) (q .has .1) (λ y l g. q .uniform y l g ∙ sym e)
+  names-below {b} {d} p q e h = p .top (d .size) (d .corner) (omega arith) (q .fits) (q .aligned) (q .has .0) (q .has .1) (λ y l g. q .uniform y l g ∙ sym e)
 
   pub names-same : {b d : Tile} → Names n f z b → Names n f z d → b ≡ d
   names-same {b} {d} p q = go (cmp (b .size) (d .size))
@@ -44,6 +44,7 @@ module _ {n : ℕ} {f : ℕ → ℕ} {z : ℕ} where
   pub names-moves : {b : Tile} → Names n f z b → (y : ℕ) → Covers b y → Names n f y b
   names-moves {b} p y h = record {
     fits = p .fits;
+    inside = p .inside;
     aligned = p .aligned;
     has = h;
     uniform = p .uniform;
@@ -78,12 +79,13 @@ module _ (f : ℕ → ℕ) (z : ℕ) where
         | above b ↦ omega arith
       ])
 
-  pub free-names : (n : ℕ) → f z ≡ 0 → Names n f z (freeBlock n f z)
+  pub free-names : (n : ℕ) → z < 4 ^ n → f z ≡ 0 → Names n f z (freeBlock n f z)
   unfolding freeBlock
-  free-names n e =
+  free-names n o e =
       let k = freeSize f n z in
       record {
         fits = freeSize-fits n;
+        inside = omega (arith, corner-has k z .0);
         aligned = corner-aligned k z;
         has = corner-has k z;
         uniform = freeSize-free e n;
@@ -96,6 +98,7 @@ tile-names valid z t i c =
     let b = valid-linear valid .members t .0 i in
     names-moves (record {
       fits = b .quadrant .fits;
+      inside = b .quadrant .inside;
       aligned = b .quadrant .aligned;
       has = (omega arith, omega (arith, area-pos (t .size)));
       uniform = b .uniform;
@@ -109,13 +112,13 @@ by-tileAt Q d (t ∷ ts) z found none = by-test Q (test-covers t z)
     (λ c. found t (List·Memᴰ·head refl) c)
     (λ c. by-tileAt Q d ts z (λ u i. found u (List·Memᴰ·tail i)) (λ e. none (accountAt-rest t ts z c ∙ e)))
 
-pub blockAt-names : {n : ℕ} {ts : List Tile} → Valid n ts → (z : ℕ) → Names n (accountAt ts) z (blockAt n ts z)
+pub blockAt-names : {n : ℕ} {ts : List Tile} → Valid n ts → (z : ℕ) → z < 4 ^ n → Names n (accountAt ts) z (blockAt n ts z)
 unfolding blockAt
-blockAt-names {n} {ts} valid z = by-tileAt (Names n (accountAt ts) z) (freeBlock n (accountAt ts) z) ts z (tile-names valid z) (free-names (accountAt ts) z n)
+blockAt-names {n} {ts} valid z o = by-tileAt (Names n (accountAt ts) z) (freeBlock n (accountAt ts) z) ts z (tile-names valid z) (free-names (accountAt ts) z n o)
 
 pub blockAt-tile : (n : ℕ) (ts : List Tile) (z : ℕ) → 0 < blockAt n ts z .account → blockAt n ts z ∈ ts
 unfolding blockAt freeBlock
 blockAt-tile n ts z = by-tileAt (λ (b : Tile). 0 < b .account → b ∈ ts) (freeBlock n (accountAt ts) z) ts z (λ t i c h. i) (λ e h. absurd (omega arith))
 
-pub blockAt-account : {n : ℕ} {ts : List Tile} → Valid n ts → (z : ℕ) → blockAt n ts z .account ≡ accountAt ts z
-blockAt-account valid z = let b = blockAt-names valid z in sym (b .uniform z (b .has .0) (b .has .1))
+pub blockAt-account : {n : ℕ} {ts : List Tile} → Valid n ts → (z : ℕ) → z < 4 ^ n → blockAt n ts z .account ≡ accountAt ts z
+blockAt-account valid z o = let b = blockAt-names valid z o in sym (b .uniform z (b .has .0) (b .has .1))

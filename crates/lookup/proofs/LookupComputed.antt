@@ -21,6 +21,7 @@ lookup-lines = record {
   quadrant-free = refl;
   stretch-start = refl;
   stretch-on = refl;
+  between = refl;
   empty = refl;
   empty-pixel = refl;
   M-outside = refl;

@@ -2,9 +2,9 @@
 --     from-first, from-behind, upto-ahead, upto-end   where a stretch starts and ends
 --     shownBy us z i           what the last of the i tiles at the front of us shows at z
 --     accountAt-shownBy        where i tiles start by z, that is the account of the list
---     Stretch f end lo hi z    z lies in the free stretch from lo up to hi: nobody's, and somebody's next to it
---     widest-first, -ahead, -behind   the widest block in a stretch, by the sizes apart from what lies on either side
---     stretch-names            the widest block in it is the one named
+--     Stretch f end lo hi z    z lies in the free stretch from lo up to hi: a run of nobody's from its first number on
+--     largest-first, -ahead, -behind   the largest block in a stretch, short of what lies on either side
+--     stretch-names            the largest block in it that has z is the one named
 --     place-tile               where the tile ahead of the place of z stops past z, it is the block named
 --     place-stretch            else the two tiles next to the place bound the stretch of z
 --     place-found, place-free  so that code answers the block named, tile or free
@@ -26,6 +26,7 @@ use Rattle.quadtree.specs.Raster.{Aligned, Covers, Uniform, accountAt}
 use Rattle.quadtree.specs.Quadtree.{Largest}
 use Rattle.quadtree.specs.Valid.{Chain, end, link, Valid}
 use Rattle.quadtree.specs.Tiling.{Without}
+use Rattle.quadtree.specs.Runs.{RunAt}
 use Rattle.quadtree.proofs.Alignment.{area-pos, size-le, aligned-room, aligned-nest, corner-aligned, corner-has}
 use Rattle.quadtree.proofs.Shown.{accountAt-first, accountAt-rest}
 use Rattle.quadtree.proofs.Chains.{chain-rising, chain-before}
@@ -35,7 +36,7 @@ use Rattle.list_search.specs.Count.{isAhead, counted}
 use Rattle.list_search.proofs.CountLaws.{test-ahead, counted-yes, ahead-none, ahead-cut}
 use Rattle.lookup.specs.Block.{blockAt, Names}
 use Rattle.lookup.specs.Lookup.{foundOf}
-use Rattle.lookup.specs.Stretch.{stretchFrom, stretchUpto, Widest}
+use Rattle.lookup.specs.Stretch.{stretchFrom, stretchUpto, LargestIn}
 use Rattle.lookup.proofs.BlockLaws.{names-same, tile-names, blockAt-names}
 
 pub from-first : (slots : List ℕ) (i : ℕ) → i ≡ 0 → 0 ≡ stretchFrom slots i
@@ -82,10 +83,8 @@ module _ {n : ℕ} (z : ℕ) where
 pub record Stretch (f : ℕ → ℕ) (end lo hi z : ℕ) : Type 0 where
   pub from : lo ≤ z
   pub upto : z < hi
-  pub room : hi ≤ end
-  pub blank : Uniform f 0 lo hi
-  pub before : 0 < lo → 0 < f (lo - 1)
-  pub behind : hi < end → 0 < f hi
+  pub run : RunAt f end lo 0 hi
+  pub first : 0 < lo → f (lo - 1) ≡ 0 → ⊥
 
 -- the sizes that end short of y and start behind it
 without-before : {z y k : ℕ} → Without z y k → z < y → cornerAt k z + 4 ^ k ≤ y
@@ -101,29 +100,30 @@ corner-nest z {j} {k} h =
     (omega (arith, corner-has k z .0, corner-has j z .1)) (omega (arith, corner-has j z .0, corner-has k z .1))
 
 module _ {lo hi z b : ℕ} (behind : Without z hi b) (upto : z < hi) where
-  pub widest-first : lo ≡ 0 → Widest lo hi z b
-  widest-first e = record { lies = (omega arith, without-before behind upto); top = λ l. omega (arith, l .1, behind .over .1) }
+  pub largest-first : lo ≡ 0 → LargestIn lo hi z b
+  largest-first e = record { lies = (omega arith, without-before behind upto); top = λ l. omega (arith, l .1, behind .over .1) }
 
   module _ {a : ℕ} (first : 0 < lo) (ahead : Without z (lo - 1) a) (from : lo ≤ z) where
-    pub widest-ahead : a < b → Widest lo hi z a
-    widest-ahead h = record {
+    pub largest-ahead : a < b → LargestIn lo hi z a
+    largest-ahead h = record {
       lies = (omega (arith, without-behind ahead (omega arith)), omega (arith, corner-nest z {j = a} {k = b} (omega arith) .1, without-before behind upto));
       top = λ l. omega (arith, l .0, ahead .over .0);
     }
 
-    pub widest-behind : b ≤ a → Widest lo hi z b
-    widest-behind h = record {
+    pub largest-behind : b ≤ a → LargestIn lo hi z b
+    largest-behind h = record {
       lies = (omega (arith, corner-nest z {j = b} {k = a} h .0, without-behind ahead (omega arith)), without-before behind upto);
       top = λ l. omega (arith, l .1, behind .over .1);
     }
 
 -- a uniform block reaches past neither end of the stretch
-pub stretch-names : {n : ℕ} {f : ℕ → ℕ} {lo hi z k : ℕ} → Stretch f (4 ^ n) lo hi z → Widest lo hi z k → Names n f z (tile (cornerAt k z) k 0)
+pub stretch-names : {n : ℕ} {f : ℕ → ℕ} {lo hi z k : ℕ} → Stretch f (4 ^ n) lo hi z → LargestIn lo hi z k → Names n f z (tile (cornerAt k z) k 0)
 stretch-names {n} {f} {lo} {hi} {z} {k} s w = record {
-  fits = size-le k n (omega (arith, w .lies .1, s .room));
+  fits = size-le k n (omega (arith, w .lies .1, s .run .room));
+  inside = omega (arith, corner-has k z .0, s .upto, s .run .room);
   aligned = corner-aligned k z;
   has = corner-has k z;
-  uniform = λ y l h. s .blank y (omega (arith, w .lies .0)) (omega (arith, w .lies .1));
+  uniform = λ y l h. s .run .uniform y (omega (arith, w .lies .0)) (omega (arith, w .lies .1));
   top = larger;
 }
   where
@@ -131,11 +131,11 @@ stretch-names {n} {f} {lo} {hi} {z} {k} s w = record {
     larger j c h g m l u b = w .top (omega (arith, low, o .0), omega (arith, high, o .1))
       where
         low : lo ≤ c
-        low = elim (decLt c lo) [ yes d ↦ absurd (omega (arith, s .before (omega arith), b (lo - 1) (omega arith) (omega (arith, s .from)))) | no d ↦ omega arith ]
+        low = elim (decLt c lo) [ yes d ↦ absurd (s .first (omega arith) (b (lo - 1) (omega arith) (omega (arith, s .from)))) | no d ↦ omega arith ]
 
         high : c + 4 ^ j ≤ hi
         high = elim (decLt hi (c + 4 ^ j)) [
-          | yes d ↦ absurd (omega (arith, s .behind (omega (arith, aligned-room g m (omega (arith, s .upto, s .room)))), b hi (omega (arith, s .upto)) d))
+          | yes d ↦ absurd (s .run .ended (omega (arith, aligned-room g m (omega (arith, s .upto, s .run .room)))) (b hi (omega (arith, s .upto)) d))
           | no d ↦ omega arith
         ]
 
@@ -192,24 +192,30 @@ module _ (n t : ℕ) (slots : List ℕ) (count : t ≤ length slots) (valid : Va
     pub place-stretch : z < 4 ^ n → lo ≤ z → Stretch map (4 ^ n) lo hi z
     place-stretch l h = record {
       from = h;
-      upto = elim ends [ inl e ↦ omega (arith, e .1, w .behind (e .0)) | inr e ↦ omega (arith, e .1) ];
-      room = elim ends [ inl e ↦ omega (arith, e .1, largest i (e .0) .quadrant .inside) | inr e ↦ omega (arith, e .1) ];
-      blank = λ y p q. between i y (record { from = omega arith; to = w .to; ahead = ahead y p; behind = behind y q }) p;
-      before = λ p.
-          let g = some-ahead p in
+      upto = below;
+      run = record {
+        some = omega (arith, below);
+        room = elim ends [ inl e ↦ omega (arith, e .1, largest i (e .0) .quadrant .inside) | inr e ↦ omega (arith, e .1) ];
+        uniform = λ y p q. between i y (record { from = omega arith; to = w .to; ahead = ahead y p; behind = behind y q }) p;
+        ended = λ p g. elim ends [
+          | inl e ↦
+              let b = largest i (e .0) in
+              omega (arith, b .quadrant .owned, b .uniform hi (omega (arith, e .1)) (omega (arith, e .1, area-pos (tileIn i .size))))
+          | inr e ↦ omega (arith, e .1)
+        ];
+      };
+      first = λ p g.
+          let a = some-ahead p in
           let b = largest (i - 1) (omega (arith, w .to)) in
-          omega (arith, b .quadrant .owned, b .uniform (lo - 1) (omega (arith, from-behind slots i g, area-pos (tileIn (i - 1) .size))) (omega (arith, from-behind slots i g)));
-      behind = λ p. elim ends [
-        | inl e ↦
-            let b = largest i (e .0) in
-            omega (arith, b .quadrant .owned, b .uniform hi (omega (arith, e .1)) (omega (arith, e .1, area-pos (tileIn i .size))))
-        | inr e ↦ absurd (omega (arith, e .1))
-      ];
+          omega (arith, b .quadrant .owned, b .uniform (lo - 1) (omega (arith, from-behind slots i a, area-pos (tileIn (i - 1) .size))) (omega (arith, from-behind slots i a)));
     }
+      where
+        below : z < hi
+        below = elim ends [ inl e ↦ omega (arith, e .1, w .behind (e .0)) | inr e ↦ omega (arith, e .1) ]
 
     -- what code answers, by whether the tile ahead stops past z
-    pub place-found : z < lo → foundOf (tileIn (i - 1)) ≡ foundOf (blockAt n (tilesIn t slots) z)
-    place-found h = ap foundOf (names-same (place-tile h .1) (blockAt-names valid z))
+    pub place-found : z < 4 ^ n → z < lo → foundOf (tileIn (i - 1)) ≡ foundOf (blockAt n (tilesIn t slots) z)
+    place-found l h = ap foundOf (names-same (place-tile h .1) (blockAt-names valid z l))
 
-    pub place-free : z < 4 ^ n → lo ≤ z → (k : ℕ) → Widest lo hi z k → foundOf (tile (cornerAt k z) k 0) ≡ foundOf (blockAt n (tilesIn t slots) z)
-    place-free l h k e = ap foundOf (names-same (stretch-names (place-stretch l h) e) (blockAt-names valid z))
+    pub place-free : z < 4 ^ n → lo ≤ z → (k : ℕ) → LargestIn lo hi z k → foundOf (tile (cornerAt k z) k 0) ≡ foundOf (blockAt n (tilesIn t slots) z)
+    place-free l h k e = ap foundOf (names-same (stretch-names (place-stretch l h) e) (blockAt-names valid z l))

@@ -1,11 +1,12 @@
 -- The block that lookup names (document 02, request 4, "Lookup names the block"). Definitions only.
 --     tileAt d ts z     the first tile of ts that covers the pixel z, or d where none does
---     freeSize f n z    the largest size up to n of a quadrant block that has the pixel z and is wholly nobody's in the
---                       raster f
+--     freeSize f n z    for a nobody's pixel z, the largest size up to n of a quadrant block that has z and is wholly
+--                       nobody's in the raster f
 --     freeBlock n f z   that block, as a tile of nobody's
 --     blockAt n ts z    the block named: for somebody's pixel the tile, for a nobody's pixel the free block
 --     Names n f z b     b is the largest quadrant block that has the pixel z and on which the raster f is uniform
--- That `blockAt` of a map is the one block that `Names` allows, whoever has the pixel, is the promise `LookupNames`.
+-- That lookup answers what `Names` says, whoever has the pixel, and that there is one such block, is the promise
+-- `LookupNames`.
 use mathlib.Core.Bool.{true, false}
 use mathlib.Core.List.{List, [], _∷_}
 use Prim.Native.Nat.{ℕ, zero, suc, _+_, _^_, _≤_, _<_}
@@ -31,6 +32,7 @@ blockAt n ts z = tileAt (freeBlock n (accountAt ts) z) ts z
 -- on no larger quadrant block that has the pixel
 pub record Names (n : ℕ) (f : ℕ → ℕ) (z : ℕ) (b : Tile) : Type 0 where
   pub fits : b .size ≤ n
+  pub inside : b .corner < 4 ^ n
   pub aligned : Aligned (b .size) (b .corner)
   pub has : Covers b z
   pub uniform : Uniform f (b .account) (b .corner) (stop b)

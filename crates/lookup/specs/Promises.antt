@@ -1,19 +1,19 @@
 -- What lookup's answer is good for: statements over `lookupOf`, for every map, point and order.
---     blockOf a       the block that an answer names, with its account
---     Inside n b c r  on a bed of order n, column c and row r lie in the square of the block b
---     LookupNames     the block named has the pixel, the map is uniform on it with the account answered, and on no
---                     larger quadrant block that has the pixel: for somebody's pixel and for nobody's alike
---     LookupTile      for somebody's pixel it is a tile of the list
---     LookupAlike     just the pixels of the block named look up to the same answer, so that a head that stays inside
---                     need not ask again
---     LookupWhole     a block has one account just where the lookup at its corner names one at least as large: a panel
---                     asks once, under a larger tile too
+--     blockOf a      the block that an answer names, with its account
+--     LookupNames    the block named has the pixel, the map is uniform on it with the account answered, and on no larger
+--                    quadrant block that has the pixel: for somebody's pixel and for nobody's alike; and it is the only
+--                    such block
+--     LookupTile     for somebody's pixel it is a tile of the list
+--     LookupAlike    just the pixels of the block named look up to the same answer, so that a head that stays inside
+--                    need not ask again
+--     LookupWhole    a block has one account just where the lookup at one of its pixels, any, names a block at least as
+--                    large: a panel asks once, under a larger tile too
 use mathlib.Core.Path.{_≡_}
 use mathlib.Core.List.{List}
 use mathlib.Core.Logic.{_↔_}
 use Prim.Native.Nat.{ℕ, _+_, _^_, _≤_, _<_}
 use Rattle.refusal.specs.Refusal.{accepted}
-use Rattle.morton.specs.Morton.{morton, column, row}
+use Rattle.morton.specs.Morton.{morton, Square}
 use Rattle.tile.specs.Tile.{Tile, tile}
 use Rattle.tile.specs.Slots.{tilesIn}
 use Rattle.quadtree.specs.Raster.{Uniform, accountAt, _∈_}
@@ -26,15 +26,10 @@ use Rattle.lookup.specs.Lookup.{lookupOf}
 abbrev pub blockOf : Found → Tile
 blockOf a = tile (a .corner) (a .size) (a .account)
 
-pub record Inside (n : ℕ) (b : Tile) (c r : ℕ) : Type 0 where
-  pub west : column n (b .corner) ≤ c
-  pub east : c < column n (b .corner) + 2 ^ b .size
-  pub north : row n (b .corner) ≤ r
-  pub south : r < row n (b .corner) + 2 ^ b .size
-
 unfoldable pub LookupNames : Type 0
 LookupNames = (n t : ℕ) (slots : List ℕ) (c r : ℕ) → lookupOf n t slots c r .number ≡ accepted →
     Names n (accountAt (tilesIn t slots)) (morton n c r) (blockOf (lookupOf n t slots c r))
+    × ((b : Tile) → Names n (accountAt (tilesIn t slots)) (morton n c r) b → b ≡ blockOf (lookupOf n t slots c r))
 
 unfoldable pub LookupTile : Type 0
 LookupTile = (n t : ℕ) (slots : List ℕ) (c r : ℕ) → 0 < lookupOf n t slots c r .account →
@@ -42,9 +37,13 @@ LookupTile = (n t : ℕ) (slots : List ℕ) (c r : ℕ) → 0 < lookupOf n t slo
 
 unfoldable pub LookupAlike : Type 0
 LookupAlike = (n t : ℕ) (slots : List ℕ) (c r c′ r′ : ℕ) → lookupOf n t slots c r .number ≡ accepted →
-    (lookupOf n t slots c′ r′ ≡ lookupOf n t slots c r) ↔ Inside n (blockOf (lookupOf n t slots c r)) c′ r′
+    (lookupOf n t slots c′ r′ ≡ lookupOf n t slots c r)
+    ↔ Square n (lookupOf n t slots c r .size) (lookupOf n t slots c r .corner) c′ r′
 
+-- on a map every pixel of a block of the bed is accepted
 unfoldable pub LookupWhole : Type 0
-LookupWhole = (n t : ℕ) (slots : List ℕ) (c k a : ℕ) → listCheck n t slots ≡ accepted → blockCheck n c k ≡ accepted →
-    Uniform (accountAt (tilesIn t slots)) a c (c + 4 ^ k)
-    ↔ ((k ≤ lookupOf n t slots (column n c) (row n c) .size) × (lookupOf n t slots (column n c) (row n c) .account ≡ a))
+LookupWhole = (n t : ℕ) (slots : List ℕ) (d k a c r : ℕ) → listCheck n t slots ≡ accepted →
+    blockCheck n d k ≡ accepted → Square n k d c r →
+    (lookupOf n t slots c r .number ≡ accepted)
+    × (Uniform (accountAt (tilesIn t slots)) a d (d + 4 ^ k)
+    ↔ ((k ≤ lookupOf n t slots c r .size) × (lookupOf n t slots c r .account ≡ a)))

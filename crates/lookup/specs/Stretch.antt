@@ -2,7 +2,7 @@
 --     stretchFrom slots i        where the tile ahead of slot i stops; 0 where none is ahead
 --     stretchUpto n t slots i    where the tile in slot i of the t starts, or the bed of order n ends
 --     Lies lo hi k z             the block of size k that has the pixel z lies from lo up to hi
---     Widest lo hi z k           k is the largest size of such a block
+--     LargestIn lo hi z k        k is the largest size of such a block
 use Prim.Native.Nat.{ℕ, zero, suc, _+_, _^_, _≤_}
 use mathlib.Core.List.{List}
 use lib.Dec.{ltb}
@@ -20,6 +20,6 @@ stretchUpto n t slots i = if (ltb i t) (tileOf (getD slots i 0) .corner) (4 ^ n)
 abbrev pub Lies : ℕ → ℕ → ℕ → ℕ → Type 0
 Lies lo hi k z = (lo ≤ cornerAt k z) × (cornerAt k z + 4 ^ k ≤ hi)
 
-pub record Widest (lo hi z k : ℕ) : Type 0 where
+pub record LargestIn (lo hi z k : ℕ) : Type 0 where
   pub lies : Lies lo hi k z
   pub top : Lies lo hi (suc k) z → ⊥

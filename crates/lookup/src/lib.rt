@@ -1,5 +1,5 @@
-// Lookup: the account at a column and a row and the largest block around it, by one binary search. The tiles on either
-// side of the place found bound the free stretch of a nobody's pixel.
+// Lookup: the account at a column and a row, and the largest block around it that has this account. Behind the checks
+// it is one binary search: the tiles on either side of the place found bound the free stretch of a nobody's pixel.
 ghost use mathlib.Core.Path.{_≡_};
 ghost use Prim.Native.Nat.{_^_, _<_, _≤_};
 ghost use lib.ListN.{length};
@@ -9,9 +9,9 @@ ghost use Rattle.quadtree.specs.Valid.{Valid};
 ghost use Rattle.quadtree.specs.Tiling.{Without};
 ghost use Rattle.lookup.specs.Block.{blockAt};
 ghost use Rattle.lookup.specs.Lookup.{lookupCheck, foundOf, lookupOf};
-ghost use Rattle.lookup.specs.Stretch.{stretchFrom, stretchUpto, Widest};
+ghost use Rattle.lookup.specs.Stretch.{stretchFrom, stretchUpto, LargestIn};
 
-// Lookup's answer: the block that has the pixel, and its account.
+// Lookup's answer: the largest block with the pixel that has one account, and this account.
 #[repr(C)]
 pub struct Found {
     pub number: u32,
@@ -43,7 +43,7 @@ fn tile_found(word: u32) -> Found
     }
 }
 
-// Where the tile ahead of a place in the list stops: a free stretch there starts with it.
+// Where the tile ahead of a place in the list stops, 0 where none is: a free stretch there starts at this number.
 fn stretch_from(slots: &[u32], place: usize) -> u32
     requires { ⌜ place ≤ length (now slots) ⌝ }
     ensures { λ r. ⌜ r ≡ stretchFrom (now (slots .entry)) place ⌝ }
@@ -54,7 +54,7 @@ fn stretch_from(slots: &[u32], place: usize) -> u32
     tile::stop(slots[place - 1])
 }
 
-// Where the tile at a place in the list starts, or the bed ends: a free stretch there ends with it.
+// Where the tile at a place in the list starts, or the bed ends: a free stretch there ends at this number.
 fn stretch_upto(order: u32, tiles: usize, slots: &[u32], place: usize) -> u32
     requires { ⌜ (order ≤ highestOrder) × (tiles ≤ length (now slots)) ⌝ }
     ensures { λ r. ⌜ r ≡ stretchUpto order tiles (now (slots .entry)) place ⌝ }
@@ -73,11 +73,11 @@ fn size_without(z: u32, y: u32) -> u32
     (31 - u32::leading_zeros(z ^ y)) / 2
 }
 
-// The size of the largest block that has z and lies in a stretch: it has neither the pixel behind the stretch nor the
-// one ahead of it.
-fn widest(from: u32, upto: u32, z: u32) -> u32
+// The size of the largest block that has z and lies in a stretch: it has neither the first number behind the stretch
+// nor the last one ahead of it, where one is.
+fn largest_in(from: u32, upto: u32, z: u32) -> u32
     requires { ⌜ (from ≤ z) × (z < upto) ⌝ }
-    ensures { λ r. ⌜ Widest from upto z r ⌝ }
+    ensures { λ r. ⌜ LargestIn from upto z r ⌝ }
 {
     let behind = size_without(z, upto);
     if from == 0 {
@@ -92,7 +92,7 @@ fn widest(from: u32, upto: u32, z: u32) -> u32
 
 // The block that a valid list has at the Morton number z: only the last tile that starts by z can cover it, and else
 // that tile and the next one bound the free stretch.
-pub fn block_at(order: u32, tiles: usize, slots: &[u32], z: u32) -> Found
+fn block_at(order: u32, tiles: usize, slots: &[u32], z: u32) -> Found
     requires { ⌜ (order ≤ highestOrder) × (z < 4 ^ order) × (tiles ≤ length (now slots))
         × Valid order (tilesIn tiles (now slots)) ⌝ }
     ensures { λ r. ⌜ r ≡ foundOf (blockAt order (tilesIn tiles (now (slots .entry))) z) ⌝ }
@@ -103,7 +103,7 @@ pub fn block_at(order: u32, tiles: usize, slots: &[u32], z: u32) -> Found
         return tile_found(slots[place - 1]);
     }
     let upto = stretch_upto(order, tiles, slots, place);
-    let size = widest(from, upto, z);
+    let size = largest_in(from, upto, z);
     Found {
         number: refusal::ACCEPTED,
         account: 0,

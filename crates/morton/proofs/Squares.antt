@@ -2,17 +2,17 @@
 --     column-block, row-block       the column and the row of the number at d in the q-th block of size k
 --     column-corner, row-corner     those of the block's corner: multiples of 2 ^ k
 --     column-room, row-room         the square lies in the bed
---     Square n k c z                in a bed of order n, the pixel z lies in the square of 2 ^ k by 2 ^ k pixels whose north-western pixel is c
 --     block-square, square-block    a number lies in the block just if its pixel lies in the square
 --     block-is-square               both, as an equivalence
+--     square-bed, number-square, square-number   the same of a column and a row: they are on the bed, and their number lies in the block
 use mathlib.Core.Path.{_≡_, ap, sym, _∙_}
 use mathlib.Core.Logic.{_↔_}
 use Prim.Native.Nat.{ℕ, zero, suc, _+_, _-_, _*_, _/_, _%_, _^_, _≤_, _<_}
 use native.Mathlib.Omega.{arith}
 use native.Mathlib.Nat.{pow-succ', mod-lt, div-add-mod', mul-le-mul-right, lt-of-mul-lt-mul-right, one-le-pow}
 use lib.Pow.{pow-add}
-use Rattle.morton.specs.Morton.{column, row}
-use Rattle.morton.proofs.MortonLaws.{column-lt, row-lt, column-zero, row-zero, morton-unique}
+use Rattle.morton.specs.Morton.{morton, column, row, Square}
+use Rattle.morton.proofs.MortonLaws.{morton-lt, column-lt, row-lt, column-zero, row-zero, column-morton, row-morton, morton-unique}
 
 -- the d-th number of the q-th block of size suc k, by fours
 fours : (k q d : ℕ) → q * 4 ^ suc k + d ≡ 4 * (q * 4 ^ k + d / 4) + d % 4
@@ -69,13 +69,7 @@ module _ (n k q : ℕ) (h : k ≤ n) where
   pub row-room : row n (q * 4 ^ k) + 2 ^ k ≤ 2 ^ n
   row-room = omega (arith, row-corner, mul-le-mul-right (2 ^ k) (row-lt (n - k) q), power-apart 2 n k h)
 
-pub record Square (n k c z : ℕ) : Type 0 where
-  pub west : column n c ≤ column n z
-  pub east : column n z < column n c + 2 ^ k
-  pub north : row n c ≤ row n z
-  pub south : row n z < row n c + 2 ^ k
-
-pub block-square : (n k q z : ℕ) → k ≤ n → q * 4 ^ k ≤ z → z < q * 4 ^ k + 4 ^ k → Square n k (q * 4 ^ k) z
+pub block-square : (n k q z : ℕ) → k ≤ n → q * 4 ^ k ≤ z → z < q * 4 ^ k + 4 ^ k → Square n k (q * 4 ^ k) (column n z) (row n z)
 block-square n k q z h l g =
     let d = z - q * 4 ^ k in
     let e : q * 4 ^ k + d ≡ z = omega arith in
@@ -92,7 +86,7 @@ same-multiple s a b d h l g =
     let q = lt-of-mul-lt-mul-right s {m = b} {n = a + 1} (omega arith) in
     omega arith
 
-pub square-block : (n k q z : ℕ) → k ≤ n → q * 4 ^ k < 4 ^ n → z < 4 ^ n → Square n k (q * 4 ^ k) z → (q * 4 ^ k ≤ z) × (z < q * 4 ^ k + 4 ^ k)
+pub square-block : (n k q z : ℕ) → k ≤ n → q * 4 ^ k < 4 ^ n → z < 4 ^ n → Square n k (q * 4 ^ k) (column n z) (row n z) → (q * 4 ^ k ≤ z) × (z < q * 4 ^ k + 4 ^ k)
 square-block n k q z h l g s =
     let p = z / 4 ^ k in
     let d = z % 4 ^ k in
@@ -110,5 +104,17 @@ square-block n k q z h l g s =
     let t = ap (λ (x : ℕ). x * 4 ^ k) (morton-unique (n - k) p q inside within columns rows) in
     (omega arith, omega arith)
 
-pub block-is-square : (n k q z : ℕ) → k ≤ n → q * 4 ^ k < 4 ^ n → z < 4 ^ n → ((q * 4 ^ k ≤ z) × (z < q * 4 ^ k + 4 ^ k)) ↔ Square n k (q * 4 ^ k) z
+pub block-is-square : (n k q z : ℕ) → k ≤ n → q * 4 ^ k < 4 ^ n → z < 4 ^ n → ((q * 4 ^ k ≤ z) × (z < q * 4 ^ k + 4 ^ k)) ↔ Square n k (q * 4 ^ k) (column n z) (row n z)
 block-is-square n k q z h l g = ((λ b. block-square n k q z h (b .0) (b .1)), square-block n k q z h l g)
+
+module _ (n k q c r : ℕ) (h : k ≤ n) where
+  pub square-bed : Square n k (q * 4 ^ k) c r → (c < 2 ^ n) × (r < 2 ^ n)
+  square-bed s = (omega (arith, column-room n k q h, s .east), omega (arith, row-room n k q h, s .south))
+
+  pub number-square : c < 2 ^ n → r < 2 ^ n → q * 4 ^ k ≤ morton n c r → morton n c r < q * 4 ^ k + 4 ^ k → Square n k (q * 4 ^ k) c r
+  number-square o p l g = rw (column-morton n c r o, row-morton n c r p) at (block-square n k q (morton n c r) h l g)
+
+  pub square-number : q * 4 ^ k < 4 ^ n → Square n k (q * 4 ^ k) c r → (q * 4 ^ k ≤ morton n c r) × (morton n c r < q * 4 ^ k + 4 ^ k)
+  square-number l s =
+      let o = square-bed s in
+      square-block n k q (morton n c r) h l (morton-lt n c r) (rw (column-morton n c r (o .0), row-morton n c r (o .1)) s)

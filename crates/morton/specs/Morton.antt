@@ -3,9 +3,11 @@
 --                    (..b1 a1 b0 a0)
 --     column n z     the column of the Morton number z, of n bits: the bits of z at even places
 --     row n z        the row of the Morton number z, of n bits: the bits of z at odd places
+--     Square n k d c r   on a bed of order n, column c and row r lie in the square of 2 ^ k by 2 ^ k pixels whose
+--                    north-western pixel has the Morton number d
 --     sideBits       the bits of a column or a row in code: columns and rows below 1,024
 -- A bed of order n has columns and rows of n bits.
-use Prim.Native.Nat.{ℕ, zero, suc, _+_, _*_, _/_, _%_}
+use Prim.Native.Nat.{ℕ, zero, suc, _+_, _*_, _/_, _%_, _^_, _≤_, _<_}
 
 unfoldable pub morton : ℕ → ℕ → ℕ → ℕ
 morton zero c r = 0
@@ -18,6 +20,12 @@ column (suc n) z = 2 * column n (z / 4) + z % 2
 unfoldable pub row : ℕ → ℕ → ℕ
 row zero z = 0
 row (suc n) z = 2 * row n (z / 4) + z / 2 % 2
+
+pub record Square (n k d c r : ℕ) : Type 0 where
+  pub west : column n d ≤ c
+  pub east : c < column n d + 2 ^ k
+  pub north : row n d ≤ r
+  pub south : r < row n d + 2 ^ k
 
 abbrev pub sideBits : ℕ
 sideBits = 10

@@ -1,5 +1,6 @@
 -- The offered call by lookup's answer.
 --     rights-by-lookup                   `RightsByLookup`: the call rests on lookup's answer
+--     rights-alike                       `RightsAlike`: it answers the same on all of the block that lookup names
 --     rightsOf-lookup, -asker, -answer   lookup's refusal; else 34; else the table, for the account that lookup answers
 use mathlib.Core.Path.{_≡_, refl, ap, sym, _∙_}
 use mathlib.Core.Bool.{Bool, false}
@@ -12,11 +13,12 @@ use Rattle.list_check.specs.ListCheck.{listCheck}
 use Rattle.checks.specs.Asked.{pointCheck, askerCheck}
 use Rattle.lookup.specs.declared.Found.{Found}
 use Rattle.lookup.specs.Lookup.{lookupCheck, lookupOf}
+use Rattle.lookup.specs.Promises.{LookupAlike}
 use Rattle.lookup.proofs.LookupLaws.{lookupOf-number}
-use Rattle.lookup.proofs.LookupPromises.{lookup-account}
+use Rattle.lookup.proofs.LookupPromises.{lookup-account, lookup-alike}
 use Rattle.rights.specs.declared.Right.{Right}
 use Rattle.rights.specs.Rights.{mayPlace, rightsCheck, rightsOf}
-use Rattle.rights.specs.Rests.{RightsByLookup}
+use Rattle.rights.specs.Rests.{RightsByLookup, RightsAlike}
 
 module _ (n t : ℕ) (slots : List ℕ) (c r p : ℕ) where
   -- the checks of lookup, then 34
@@ -32,6 +34,11 @@ unfolding RightsByLookup rightsOf
 rights-by-lookup n t slots c r p = rw (same-checks n t slots c r p)
     (unless-alike (λ (a b : Right). a ≡ b) (rightsCheck n t slots c r p) (λ x. refl)
     (λ e. ap (λ (h : ℕ). record { number = accepted; yes = mayPlace p h }) (sym (lookup-account n t slots c r (else-inv _ _ (checks-grouped n t slots c r p ∙ e) .0)))))
+
+pub rights-alike : RightsAlike
+unfolding RightsAlike RightsByLookup LookupAlike
+rights-alike n t slots c r c′ r′ p e i =
+    rights-by-lookup n t slots c′ r′ p ∙ rw (lookup-alike n t slots c r c′ r′ e .1 i) (sym (rights-by-lookup n t slots c r p))
 
 module _ (n t : ℕ) (slots : List ℕ) (c r p : ℕ) (f : Found) (is : f ≡ lookupOf n t slots c r) where
   by-found : rightsOf n t slots c r p ≡ unless (orElse (f .number) (askerCheck p)) (λ number. record { number = number; yes = false }) (record { number = accepted; yes = mayPlace p (f .account) })

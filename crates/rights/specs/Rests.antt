@@ -1,11 +1,13 @@
--- The rights call rests on lookup's answer (document 02, request 4). A statement over the definitions of both calls.
+-- The rights call rests on lookup's answer (document 02, request 4). Statements over the definitions of both calls.
 --     RightsByLookup   for every input: lookup's refusal, then 34, then the table for the account that lookup answers
+--     RightsAlike      whoever asks, every pixel of the block that lookup names has the same answer
 use mathlib.Core.Path.{_≡_}
 use mathlib.Core.Bool.{false}
 use mathlib.Core.List.{List}
 use Prim.Native.Nat.{ℕ}
 use Rattle.refusal.specs.Refusal.{accepted}
 use Rattle.refusal.specs.Checks.{orElse, unless}
+use Rattle.morton.specs.Morton.{Square}
 use Rattle.checks.specs.Asked.{askerCheck}
 use Rattle.lookup.specs.Lookup.{lookupOf}
 use Rattle.rights.specs.Rights.{mayPlace, rightsOf}
@@ -16,3 +18,8 @@ RightsByLookup = (n t : ℕ) (slots : List ℕ) (c r p : ℕ) →
     ≡ unless (orElse (lookupOf n t slots c r .number) (askerCheck p))
     (λ number. record { number = number; yes = false })
     (record { number = accepted; yes = mayPlace p (lookupOf n t slots c r .account) })
+
+unfoldable pub RightsAlike : Type 0
+RightsAlike = (n t : ℕ) (slots : List ℕ) (c r c′ r′ p : ℕ) → lookupOf n t slots c r .number ≡ accepted →
+    Square n (lookupOf n t slots c r .size) (lookupOf n t slots c r .corner) c′ r′ →
+    rightsOf n t slots c′ r′ p ≡ rightsOf n t slots c r p

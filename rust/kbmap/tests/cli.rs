@@ -130,6 +130,8 @@ fn at_every_pixel() {
         let who = if account == 0 { "nobody's\n".to_owned() } else { format!("account {account}, ") };
         let text = answer.text();
         assert!(text.starts_with(&format!("column {column}, row {row}: {who}")), "{text}");
+        let what = if account == 0 { "\n  free block: corner " } else { "\n  tile: corner " };
+        assert!(text.contains(what), "{text}");
     }
 }
 

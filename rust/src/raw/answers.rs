@@ -35,7 +35,7 @@ pub struct Fed {
     pub tiles: usize,
 }
 
-/// `kb_lookup_answer`.
+/// `kb_lookup_answer`: in numbers what [`Found`](crate::Found) says.
 #[repr(C)]
 #[derive(Clone, Copy, Debug, PartialEq, Eq)]
 pub struct Found {
@@ -43,7 +43,7 @@ pub struct Found {
     pub number: u32,
     /// The account, 0 for nobody.
     pub account: u8,
-    /// The corner of the block that has the pixel: its tile, or the largest one that is wholly nobody's.
+    /// The corner of the block found.
     pub corner: u32,
     /// Its size.
     pub size: u32,

@@ -112,6 +112,8 @@ fn others(random: &mut Random, count: &mut Count, raster: &[u8], words: &[u32]) 
         let (column, row) = (random.below(SIDE), random.below(SIDE));
         let (number, named) = count.lookup(at, column as u32, row as u32);
         assert_eq!((number, named.account), (0, raster[row * SIDE + column]));
+        let near = (column as u32 ^ random.below(16) as u32, row as u32 ^ random.below(16) as u32);
+        count.lookups(at, (column as u32, row as u32), near);
         count.rights(at, column as u32, row as u32, random.between(1, 63) as u8);
         let (corner, size) = block(random, ORDER);
         count.part(at, corner, size);

@@ -1,10 +1,11 @@
-//! Every combination of arguments at and past their limits on a few maps, and every bed of order 1 of three accounts.
+//! Every combination of arguments at and past their limits on a few maps, every bed of order 1 of three accounts, and
+//! lookups on every bed of order 2 of two and beside free blocks of every size.
 
 use crate::combine::{words, CHOICES};
 use crate::living::Living;
 use crate::pair::Count;
 use crate::plain::bed::Bed;
-use crate::plain::{area, left, Record};
+use crate::plain::{area, left, pixel, Record};
 
 /// Orders, and numbers that would be good orders if they were cut down.
 const ORDERS: [u32; 13] = [0, 1, 2, 3, 9, 10, 11, 12, 255, 256, 258, 1 << 16, u32::MAX];
@@ -50,6 +51,8 @@ pub fn all(count: &mut Count) {
         records(count, order, &words);
     }
     order_one(count);
+    order_two(count);
+    free_sizes(count);
     combined(count);
     combined_small(count);
 }
@@ -157,6 +160,32 @@ fn order_one(count: &mut Count) {
                     count.shown(living.at(), corner, size);
                 }
             }
+            for (one, two) in pairs(&[(0, 0), (1, 0), (0, 1), (1, 1)]) {
+                count.lookups(living.at(), one, two);
+            }
+        }
+    }
+}
+
+/// Every bed of order 2 of nobody's pixels and one account's, each pixel looked up.
+fn order_two(count: &mut Count) {
+    for bed in 0..1u32 << 16 {
+        let accounts = (0..16).map(|pixel| (bed >> pixel & 1) as u8).collect();
+        let tiles = Bed { order: 2, kind: 0, scanned: 16, accounts }.blocks();
+        let words: Vec<u32> = tiles.iter().map(|tile| tile.word()).collect();
+        for pixel in 0..16 {
+            count.lookup((2, words.len(), &words), pixel % 4, pixel / 4);
+        }
+    }
+}
+
+/// Free blocks of every size on the largest bed: one held pixel lies in the next block of the size, ahead or behind.
+fn free_sizes(count: &mut Count) {
+    for held in [0, 0x35a1c, 0x9c3f6, 0xfffff] {
+        for (size, beside) in (0..10).flat_map(|size| (1..4).map(move |beside| (size, beside))) {
+            let (column, row) = pixel(held ^ beside << (2 * size));
+            let (number, named) = count.lookup((10, 1, &[held as u32 * 1024 + 7]), column as u32, row as u32);
+            assert_eq!((number, named.size, named.account), (0, size, 0), "{held}, {beside}");
         }
     }
 }

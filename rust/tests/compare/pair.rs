@@ -58,6 +58,10 @@ pub fn tile_of(tile: kingletbed::Tile) -> Tile {
     Tile { corner: tile.corner().into(), size: tile.size(), account: tile.account().0 }
 }
 
+pub fn block_of(tile: Tile) -> Block {
+    Block { corner: tile.corner as u32, size: tile.size }
+}
+
 /// A map to ask: order, tile count and slots, and the bed that has them, where one lives on.
 #[derive(Clone, Copy)]
 pub struct At<'a> {
@@ -137,15 +141,10 @@ impl Count {
         let answer = raw::lookup(at.order, at.tiles, at.slots, column, row);
         let named = Tile { corner: answer.corner.into(), size: answer.size, account: answer.account };
         same("lookup", &given, (answer.number, named), plain);
+        let found = Found { account: Account(plain.1.account), block: block_of(plain.1) };
         for bed in at.beds() {
             let wrapped = bed.and_then(|bed| bed.lookup(Pixel { column, row }));
-            let block = Block { corner: answer.corner, size: answer.size };
-            same(
-                "lookup of a bed",
-                &given,
-                flat(wrapped),
-                some(plain.0, Found { account: Account(plain.1.account), block }),
-            );
+            same("lookup of a bed", &given, flat(wrapped), some(plain.0, found));
         }
         self.add(plain.0);
         plain
@@ -156,8 +155,7 @@ impl Count {
         let at = at.into();
         let (first, second) = (self.lookup(at, column, row), self.lookup(at, other.0, other.1));
         if first.0 == 0 {
-            let block = Block { corner: first.1.corner as u32, size: first.1.size };
-            let has = block.has(Pixel { column: other.0, row: other.1 });
+            let has = block_of(first.1).has(Pixel { column: other.0, row: other.1 });
             same("lookup inside the block named", &(at, (column, row), other), has, first == second);
         }
     }
@@ -185,7 +183,11 @@ impl Count {
         let given = (at, corner, size);
         let (number, tiles, accounts) = list::shown(at.order, at.tiles, at.slots, corner, size);
         let words: Vec<u32> = tiles.iter().map(|tile| tile.word()).collect();
+        let one = accounts.first().filter(|&first| accounts.iter().all(|account| account == first));
+        let one = one.map(|&account| Account(account));
         for bed in at.beds() {
+            let whole = bed.clone().and_then(|bed| bed.account_of(Block { corner, size }));
+            same("account of a block", &given, flat(whole), some(number, one));
             let wrapped = bed.and_then(|bed| {
                 let shown = bed.shown(Block { corner, size })?;
                 let mut back: Vec<Tile> = shown.clone().rev().map(tile_of).collect();

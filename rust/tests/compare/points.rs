@@ -36,6 +36,11 @@ impl Count {
         same("block", &given, (answer.number, answer.corner, answer.size), plain);
         let block = Block { corner: plain.1, size: plain.2 };
         same("around", &given, flat(Block::around(order, Pixel { column, row }, size)), some(plain.0, block));
+        for corner in [plain.1, plain.1 ^ 1, plain.1 ^ 1 << 20, u32::MAX] {
+            let block = Block { corner, size };
+            let has = points::has(corner, size, column, row);
+            same("has", &(block, column, row), block.has(Pixel { column, row }), has);
+        }
         self.add(plain.0);
     }
 

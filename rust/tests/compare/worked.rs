@@ -1,5 +1,5 @@
-//! The worked lines of the scope paper, those that are proved as well, and two of previews. The numbers are the paper's
-//! or computed by the checker, not the plain implementation's.
+//! The worked lines of the scope paper, those that are proved as well, and those of lookups and previews. The numbers
+//! are the paper's or computed by the checker, not the plain implementation's.
 
 use crate::living::Living;
 use crate::pair::Count;
@@ -57,7 +57,11 @@ fn bed_m(count: &mut Count) {
     assert_eq!(count.lookup(at, 3, 2), (0, Tile { corner: 12, size: 1, account: 9 }));
     assert_eq!(count.lookup(at, 2, 0), (0, Tile { corner: 4, size: 0, account: 0 }));
     assert_eq!(count.lookup((2, 3, &[69, 8201, 12361]), 2, 0), (0, Tile { corner: 4, size: 1, account: 0 }));
-    assert_eq!(count.lookup((10, 0, &[0; 0]), 700, 3), (0, Tile { corner: 0, size: 10, account: 0 }));
+    assert_eq!(count.lookup((2, 2, &[69, 4101]), 3, 0), (0, Tile { corner: 5, size: 0, account: 0 }));
+    assert_eq!(count.lookup((2, 2, &[69, 4101]), 0, 2), (0, Tile { corner: 8, size: 1, account: 0 }));
+    assert_eq!(count.lookup((3, 2, &[5, 64521]), 6, 3), (0, Tile { corner: 16, size: 2, account: 0 }));
+    assert_eq!(count.lookup((3, 0, &[0; 0]), 5, 6), (0, Tile { corner: 0, size: 3, account: 0 }));
+    assert_eq!(count.lookup((2, 1, &[64]), 4, 1), (14, Tile { corner: 0, size: 0, account: 0 }));
     assert_eq!(count.lookup(at, 4, 1), (31, Tile { corner: 0, size: 0, account: 0 }));
 
     let mut slots = M_WORDS.to_vec();

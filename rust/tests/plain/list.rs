@@ -115,8 +115,8 @@ pub fn decode(order: u32, tiles: usize, slots: &[u32], raster: &[u8]) -> (u32, V
     }
 }
 
-/// The number and the block named, with its account: of the squares that quadrants cover and that have the pixel, the
-/// largest one of the pixel's account alone.
+/// The number and the block named, with its account: of the quadrant blocks that have the pixel the largest one of its
+/// account alone.
 pub fn lookup(order: u32, tiles: usize, slots: &[u32], column: u32, row: u32) -> (u32, Tile) {
     let nothing = Tile { corner: 0, size: 0, account: 0 };
     let tiles = match checked(order, tiles, slots) {

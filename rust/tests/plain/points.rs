@@ -1,6 +1,6 @@
 //! Extents, Morton numbers, blocks, points and the fields of a word, bit by bit. Answers begin with the number.
 
-use super::{morton as morton_of, pixel};
+use super::{area, morton as morton_of, pixel};
 
 /// 2 to a power, by doubling.
 fn power(exponent: u32) -> u64 {
@@ -62,4 +62,13 @@ pub fn point(order: u32, morton: u32) -> (u32, u32, u32) {
     }
     let (column, row) = pixel(u64::from(morton));
     (0, column as u32, row as u32)
+}
+
+/// Whether the block of a size at a corner is one of the largest bed, and a pixel lies in its square.
+pub fn has(corner: u32, size: u32, column: u32, row: u32) -> bool {
+    if size > 10 || u64::from(corner) >= area(10) || u64::from(corner) % area(size) != 0 {
+        return false;
+    }
+    let ((west, north), side) = (pixel(corner.into()), 2usize.pow(size));
+    (west..west + side).contains(&(column as usize)) && (north..north + side).contains(&(row as usize))
 }

@@ -18,7 +18,7 @@ returns c =
     let cut = c .before .before .before .before .cut in
     let stretch-from = c .before .before .before .stretch-from in
     c .tile-found .ensures ∙ place-found (s .args .order) (s .args .tiles) (s .args .slots .now) (s .pre .2) (s .pre .3) (s .args .z) (cut .result)
-    (cut .ensures) (omega (arith, stretch-from .ensures, c .before .before .if1 .taken))
+    (cut .ensures) (s .pre .1) (omega (arith, stretch-from .ensures, c .before .before .if1 .taken))
 
 returns-2 : tie.Need-returns-2
 returns-2 c =
@@ -26,10 +26,10 @@ returns-2 c =
     let cut = c .before .before .before .before .before .cut in
     let from = c .before .before .before .before .stretch-from .ensures in
     let upto = c .before .before .stretch-upto .ensures in
-    let size = c .before .widest .result in
+    let size = c .before .largest-in .result in
     ap (λ (d : ℕ). foundOf (tile d size 0)) (c .corner-at .ensures) ∙ place-free (s .args .order) (s .args .tiles) (s .args .slots .now) (s .pre .2) (s .pre .3)
     (s .args .z) (cut .result) (cut .ensures) (s .pre .1) (omega (arith, from, c .before .before .before .if1 .left)) size (rw (← from, ← upto)
-    (c .before .widest .ensures))
+    (c .before .largest-in .ensures))
 
 add-cut : tie.Need-add-cut
 add-cut c = omega (arith, area-mono (c .before .pre .0))
@@ -60,16 +60,16 @@ sub-tile-found c = omega (arith, ahead c)
 shared-slice-read-tile-found : tie.Need-shared-slice-read-tile-found
 shared-slice-read-tile-found c = omega (arith, ahead (c .before), c .before .before .before .cut .ensures .to)
 
-widest-requires : tie.Need-widest-requires
-widest-requires c κs = let w = stretch c in (w .from, w .upto)
+largest-in-requires : tie.Need-largest-in-requires
+largest-in-requires c κs = let w = stretch c in (w .from, w .upto)
 
 corner-at-requires : tie.Need-corner-at-requires
 corner-at-requires c κs =
     let w = stretch (c .before) in
     let m = area-mono (c .before .before .before .before .before .before .pre .0) in
-    omega (arith, size-le (c .widest .result) highestOrder (omega (arith, m, w .room, c .widest .ensures .lies .1)))
+    omega (arith, size-le (c .largest-in .result) highestOrder (omega (arith, m, w .run .room, c .largest-in .ensures .lies .1)))
 
 pub block-at-spec : {M : Type 1} → statement M
 block-at-spec =
     tie.close (tie.spec add-cut (λ c κs. search needs) (λ c κs. search needs) sub-tile-found (λ c. search needs) shared-slice-read-tile-found
-    (λ c κs. search needs) returns (λ c κs. search needs) widest-requires corner-at-requires returns-2)
+    (λ c κs. search needs) returns (λ c κs. search needs) largest-in-requires corner-at-requires returns-2)
