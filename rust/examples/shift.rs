@@ -34,8 +34,8 @@ pub fn shift(text: &mut String) -> Result<(), Box<dyn Error>> {
     }
     writeln!(text, "{} of {} pixels scanned, {} tiles", bed.scanned(), bed.pixels(), bed.tiles().len())?;
 
-    // A student wants the block of 2 by 2 pixels around column 5 and row 2. That no tile is inside would not say that it
-    // is free.
+    // A student wants the block of 2 by 2 pixels around column 5 and row 2. That no tile is inside would not say that
+    // it is free.
     let (student, at) = (Account(12), Pixel { column: 5, row: 2 });
     let ground = Block::around(bed.order(), at, 1)?;
     writeln!(text, "the ground of {student} is free: {}", bed.account_of(ground)? == Some(Account::NOBODY))?;

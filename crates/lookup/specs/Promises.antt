@@ -1,8 +1,8 @@
 -- What lookup's answer is good for: statements over `lookupOf`, for every map, point and order.
 --     blockOf a      the block that an answer names, with its account
---     LookupNames    the block named has the pixel, the map is uniform on it with the account answered, and on no larger
---                    quadrant block that has the pixel: for somebody's pixel and for nobody's alike; and it is the only
---                    such block
+--     LookupNames    the block named has the pixel, the map is uniform on it with the account answered, and on no
+--                    larger quadrant block that has the pixel: for somebody's pixel and for nobody's alike; and it is
+--                    the only such block
 --     LookupTile     for somebody's pixel it is a tile of the list
 --     LookupAlike    just the pixels of the block named look up to the same answer, so that a head that stays inside
 --                    need not ask again
