@@ -1,6 +1,7 @@
 -- Laws of the block named, with no slot in sight.
 --     names-same         there is one such block
 --     names-moves        it is that of each of its pixels
+--     names-cong         it goes by the raster's accounts on the bed
 --     freeSize-fits, freeSize-free, freeSize-top   the largest free block's size, by what it says
 --     free-names         for a nobody's pixel it is the free block
 --     tile-names         for somebody's pixel it is the tile
@@ -16,7 +17,7 @@ use Rattle.basics.proofs.Tests.{by-test}
 use Rattle.tile.specs.Tile.{Tile, cornerAt}
 use Rattle.quadtree.specs.Raster.{Covers, Uniform, accountAt, _∈_}
 use Rattle.quadtree.specs.Valid.{Valid}
-use Rattle.quadtree.proofs.Alignment.{Cmp, cmp, below, same, above, area-pos, aligned-nest, corner-aligned, corner-has, corner-only}
+use Rattle.quadtree.proofs.Alignment.{Cmp, cmp, below, same, above, area-pos, aligned-room, aligned-nest, corner-aligned, corner-has, corner-only}
 use Rattle.quadtree.proofs.Shown.{test-covers, accountAt-rest}
 use Rattle.quadtree.proofs.Blocks.{test-uniform}
 use Rattle.quadtree.proofs.Linear.{valid-linear}
@@ -52,6 +53,17 @@ module _ {n : ℕ} {f : ℕ → ℕ} {z : ℕ} where
         let o = aligned-nest {j = b .size} {k = k} {x = b .corner} {c = c} (omega arith) (p .aligned) m (omega (arith, h .1)) (omega (arith, h .0)) in
         p .top k c g l m (omega (arith, o .0, p .has .0)) (omega (arith, o .1, p .has .1));
   }
+
+-- it goes by the raster's accounts on the bed
+pub names-cong : {n : ℕ} {f g : ℕ → ℕ} {z : ℕ} {b : Tile} → ((y : ℕ) → y < 4 ^ n → f y ≡ g y) → z < 4 ^ n → Names n f z b → Names n g z b
+names-cong {n} e h p = record {
+  fits = p .fits;
+  inside = p .inside;
+  aligned = p .aligned;
+  has = p .has;
+  uniform = λ y l u. sym (e y (omega (arith, aligned-room (p .fits) (p .aligned) (p .inside)))) ∙ p .uniform y l u;
+  top = λ k c x l m q u v. p .top k c x l m q u (λ y i j. e y (omega (arith, aligned-room {k = n} l m (omega arith))) ∙ v y i j);
+}
 
 module _ (f : ℕ → ℕ) (z : ℕ) where
   -- the block of size k that has z is wholly nobody's

@@ -1,5 +1,6 @@
 -- What the answer is good for.
 --     lookup-names     `LookupNames`: the largest uniform block with the pixel, whoever has it, and no other
+--     lookup-bed       `LookupBed`: the same of the bed whose map it is
 --     lookup-tile      `LookupTile`: for somebody's pixel a tile of the list
 --     lookup-alike     `LookupAlike`: just the pixels of the block named look up to the same answer
 --     lookup-whole     `LookupWhole`: one lookup at any of its pixels tells whether a block has one account
@@ -9,22 +10,28 @@ use mathlib.Core.List.{List}
 use Prim.Native.Nat.{ℕ, _+_, _^_, _≤_, _<_}
 use native.Mathlib.Decide.{decLt}
 use native.Mathlib.Omega.{arith}
+use lib.ListN.{length}
 use Rattle.refusal.specs.Refusal.{accepted}
 use Rattle.refusal.proofs.CheckLaws.{else-inv, else-on, by-unless}
 use Rattle.morton.specs.Morton.{morton, Square}
 use Rattle.morton.proofs.MortonLaws.{morton-lt}
 use Rattle.morton.proofs.Squares.{square-bed, number-square, square-number}
-use Rattle.tile.specs.Tile.{Tile}
-use Rattle.tile.specs.Slots.{tilesIn}
+use Rattle.tile.specs.Tile.{Tile, highestAccount}
+use Rattle.tile.specs.Slots.{tilesIn, filled}
+use Rattle.tile.proofs.SlotsLaws.{tilesIn-filled}
 use Rattle.quadtree.specs.Raster.{Aligned, Uniform, accountAt, _∈_}
+use Rattle.quadtree.specs.Quadtree.{quadtree}
 use Rattle.quadtree.proofs.Alignment.{aligned-nest}
+use Rattle.quadtree.proofs.ValidLaws.{quadtree-valid, quadtree-shown}
+use Rattle.quadtree.proofs.Linear.{quadtree-largest, quadtree-low}
 use Rattle.list_check.specs.ListCheck.{listCheck}
+use Rattle.list_check.proofs.Accepts.{listCheck-filled}
 use Rattle.checks.proofs.AskedLaws.{point-inside, block-passed}
 use Rattle.lookup.specs.declared.Found.{Found}
 use Rattle.lookup.specs.Block.{blockAt, Names}
 use Rattle.lookup.specs.Lookup.{lookupCheck, foundOf, lookupOf}
-use Rattle.lookup.specs.Promises.{blockOf, LookupNames, LookupTile, LookupAlike, LookupWhole}
-use Rattle.lookup.proofs.BlockLaws.{names-same, names-moves, blockAt-names, blockAt-tile, blockAt-account}
+use Rattle.lookup.specs.Promises.{blockOf, LookupNames, LookupBed, LookupTile, LookupAlike, LookupWhole}
+use Rattle.lookup.proofs.BlockLaws.{names-same, names-moves, names-cong, blockAt-names, blockAt-tile, blockAt-account}
 use Rattle.lookup.proofs.LookupLaws.{lookupCheck-passed, lookupOf-number, lookupOf-block}
 
 pub lookup-names : LookupNames
@@ -33,6 +40,16 @@ lookup-names n t slots c r e =
     let p = sym (lookupOf-number n t slots c r) ∙ e in
     let b = blockAt-names (lookupCheck-passed n t slots c r p .valid) (morton n c r) (morton-lt n c r) in
     rw (lookupOf-block n t slots c r p) (b, λ d q. names-same q b)
+
+pub lookup-bed : LookupBed
+unfolding LookupBed lookupCheck
+lookup-bed n m f c r o low room h g =
+    let ts = quadtree n f in
+    let accounts = quadtree-low n f highestAccount low in
+    let on = else-on _ _ (listCheck-filled n m ts o room accounts (quadtree-valid n f)) ∙ sym (point-inside n c r (h, g)) in
+    let shown = tilesIn-filled m ts (λ t i. record { size = omega (arith, quadtree-largest n f i .quadrant .fits); account = accounts t i }) in
+    let z = morton-lt n c r in
+    rw (lookupOf-block n (length ts) (filled m ts) c r on, shown) (refl, names-cong (quadtree-shown n f) z (blockAt-names (quadtree-valid n f) (morton n c r) z))
 
 pub lookup-tile : LookupTile
 unfolding LookupTile lookupOf
