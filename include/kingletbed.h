@@ -442,7 +442,7 @@ KB_MUST_USE static inline kb_shown_answer kb_scan_shown(const kb_scan *scan, uin
 {
     kb_part_tiles_answer part = kb_scan_part(scan, corner, size);
     kb_shown_answer shown = {part.number, part.tiles, part.length, KB_NO_ACCOUNT};
-    if (part.number == KB_ACCEPTED && part.length < 2) { /* two tiles in a block are not all of it */
+    if (part.number == KB_ACCEPTED && part.length < 2) { /* with two tiles inside it has not one account */
         kb_point_answer at = kb_point(scan->order, kb_number_word(corner));
         kb_lookup_answer found = kb_scan_lookup(scan, at.column, at.row);
         if (found.number == KB_ACCEPTED && size <= found.size) /* a refusal, of size 0, must not look free */

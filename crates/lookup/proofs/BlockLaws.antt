@@ -104,7 +104,7 @@ module _ (f : ℕ → ℕ) (z : ℕ) where
         top = λ j c h l m p q u. freeSize-top n j h l (rw (corner-only m p q) at u);
       }
 
--- a tile is the block named at its corner
+-- a tile is the block named at its corner, and so at each pixel that it covers
 pub tile-names : {n : ℕ} {ts : List Tile} → Valid n ts → (z : ℕ) (t : Tile) → t ∈ ts → Covers t z → Names n (accountAt ts) z t
 tile-names valid z t i c =
     let b = valid-linear valid .members t .0 i in

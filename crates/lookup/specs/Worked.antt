@@ -19,7 +19,7 @@ pub record LookupLines : Type 0 where
   -- 5 to 15 are free: around 5 only the pixel, around 8 its quadrant, though the stretch is longer
   pub stretch-start : lookupOf 2 2 (69 ∷ 4101 ∷ []) 3 0 ≡ foundOf (tile 5 0 0)
   pub stretch-on : lookupOf 2 2 (69 ∷ 4101 ∷ []) 0 2 ≡ foundOf (tile 8 1 0)
-  -- between the first pixel and the last but one, 1 to 62 are free: around 30 the quadrant NE, from 16 on
+  -- between the first pixel and the last, 1 to 62 are free: around 30 the quadrant NE, which starts at 16
   pub between : lookupOf 3 2 (5 ∷ 64521 ∷ []) 6 3 ≡ foundOf (tile 16 2 0)
   -- an empty bed is one free block
   pub empty : lookupOf 3 0 [] 5 6 ≡ foundOf (tile 0 3 0)

@@ -1,4 +1,4 @@
--- Powers of four and their multiples. All of the theory's arithmetic that is not linear stands here.
+-- Powers of four and their multiples. The theory's arithmetic that is not linear stands here, but for what goes by bits (`TrailingZeros`, `HighestBit`).
 --     cmp a b                     a is below b, the same, or above
 --     area-pos, area-mono         4 ^ k is positive, and grows with k
 --     aligned-zero .. -down       which numbers are multiples of 4 ^ k

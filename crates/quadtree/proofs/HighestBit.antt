@@ -4,7 +4,7 @@
 --     zeros-few        a number that is not 0 has at most 31 zeros ahead of its highest bit
 --     xor-same         numbers that differ in no bit are the same
 --     xor-some         numbers that are not the same differ in one
---     without-half       half the place of the highest bit in which they differ is the size of the largest block that has the one and not the other
+--     without-half     half the place of the highest bit in which they differ is the size of the largest block that has the one and not the other
 use mathlib.Core.Path.{_≡_, ap, sym, _∙_}
 use Prim.Native.Nat.{ℕ, suc, _+_, _-_, _*_, _/_, _%_, _^_, _≤_, _<_}
 use native.Mathlib.Nat.{div-add-mod', mod-lt, mul-div-cancel, div-eq-of-lt}
