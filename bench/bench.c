@@ -4,44 +4,24 @@
 
    No other way to build a list, to combine two, to name a block or to write and read a file is timed in its own table
    before it has given what the library gives. */
+#include "bench.h"
 #include "builds.h"
 #include "stack.h"
 #include "straight.h"
-#include "timing.h"
 
-#include <stdio.h>
-#include <stdlib.h>
 #include <string.h>
-
-/* A bed, its accounts in both orders of scanning, its list, and room to work in. */
-struct bench {
-    uint32_t order;
-    size_t pixels, tiles, room;
-    uint8_t *rows, *morton, *raster, *file, *copy;
-    uint32_t *list, *slots, *other, *zones;
-    struct linked *linked;
-};
 
 typedef kb_fresh_answer fresh_call(uint32_t, uint32_t, uint32_t *, size_t);
 typedef kb_feed_answer feed_call(uint32_t, uint32_t, uint32_t, size_t, uint32_t *, size_t, const uint8_t *, size_t);
 
-/* No call that is timed may be refused. */
-static void must(uint32_t number)
-{
-    if (number) {
-        fprintf(stderr, "bench: a call was refused: %s\n", kb_refusal_text(number));
-        exit(1);
-    }
-}
-
-/* A whole scan in pieces of a length with m slots; returns the tile count. */
+/* A scan in pieces of a length with m slots; returns the tile count. */
 static size_t scan(struct bench *b, fresh_call *fresh, feed_call *feed, uint32_t kind, size_t m, size_t piece)
 {
     const uint8_t *accounts = kind == KB_ROWS ? b->rows : b->morton;
     kb_fresh_answer record = fresh(kind, b->order, b->slots, m);
     uint32_t pixels = record.pixels;
     size_t tiles = record.tiles;
-    for (size_t done = 0; done < b->pixels; done += piece) {
+    for (size_t done = 0; done < b->scanned; done += piece) {
         kb_feed_answer fed = feed(kind, b->order, pixels, tiles, b->slots, m, accounts + done, piece);
         must(fed.number);
         pixels = fed.pixels;
@@ -70,7 +50,7 @@ static void same(struct bench *b, const uint32_t *list, size_t tiles, const char
 static void set_up(struct bench *b, int kind, uint32_t order)
 {
     b->order = order;
-    b->pixels = area(order);
+    b->pixels = b->scanned = area(order);
     make_bed(kind, order, b->rows);
     for (uint32_t z = 0; z < b->pixels; z++)
         b->morton[z] = b->rows[straight_side(z >> 1) << order | straight_side(z)];
@@ -87,6 +67,15 @@ static void set_up(struct bench *b, int kind, uint32_t order)
     /* By rows a list is longer on the way; in Morton order by three tiles of each size at most. */
     size_t most = linked_most(b->linked), morton = b->tiles + 3 * order + 1;
     b->room = most > morton ? most : morton;
+}
+
+/* The scan by rows of the same bed, half done. */
+static void halve(struct bench *b)
+{
+    size_t half = b->scanned /= 2;
+    b->tiles = scan(b, kb_fresh, kb_feed, KB_ROWS, b->room, half);
+    memcpy(b->list, b->slots, b->tiles * sizeof *b->list);
+    same(b, b->slots, scan(b, straight_fresh, straight_feed, KB_ROWS, b->room, half), "straightforward C half done");
 }
 
 /* The ways to build a list that the table of feeds compares. */
@@ -119,70 +108,6 @@ static void feeds(struct bench *b, uint32_t kind)
     if (kind == KB_ROWS)
         printf("| %.2f ", ratio(ours, ways + BUILT));
     printf("| %.2f | %.2f | %.2f ", least(by_row) / all, ratio(by_row, ways + STRAIGHT_BY_ROW), ratio(by_row, other));
-}
-
-/* A cell: nanoseconds for each tile, pixel or slot, and the ratio to straightforward C. */
-static void cell(const struct timing *ours, const struct timing *straight, size_t units)
-{
-    printf("| %.2f ×%.2f ", least(ours) / (double)(units ? units : 1), ratio(ours, straight));
-}
-
-/* Two cells: a block of 16 pixels is previewed, and then claimed and released in turn. */
-static void claims(struct bench *b, size_t m, uint32_t corner)
-{
-    uint32_t order = b->order, *slots = b->slots;
-    size_t tiles = b->tiles, left = tiles;
-    struct timing ours, straight;
-    if (kb_preview(order, tiles, slots, m, corner, 2, 9).tiles
-        != straight_preview(order, tiles, slots, m, corner, 2, 9).tiles) {
-        fprintf(stderr, "bench: straightforward C previews another count\n");
-        exit(1);
-    }
-    BOTH(ours, must(kb_preview(order, tiles, slots, m, corner, 2, 9).number),
-         straight, must(straight_preview(order, tiles, slots, m, corner, 2, 9).number));
-    cell(&ours, &straight, tiles);
-    BOTH(ours, left = kb_claim(order, left, slots, m, corner, 2, 9).tiles;
-         left = kb_claim(order, left, slots, m, corner, 2, 0).tiles,
-         straight, left = straight_claim(order, left, slots, m, corner, 2, 9).tiles;
-         left = straight_claim(order, left, slots, m, corner, 2, 0).tiles);
-    cell(&ours, &straight, 2 * tiles);
-}
-
-/* One row of the table of the other calls. Every call but the fresh scan and the reader checks the list first. */
-static void calls(struct bench *b)
-{
-    uint32_t order = b->order, side = 1u << order, at = side / 3, corner = straight_morton(at & ~3u, at & ~3u);
-    size_t tiles = b->tiles, m = tiles + 40;
-    struct timing ours, straight;
-    uint32_t *slots = b->slots;
-    memset(slots, 0, m * sizeof *slots);
-    memcpy(slots, b->list, tiles * sizeof *slots);
-    BOTH(ours, must(kb_check(order, tiles, slots, m)), straight, must(straight_check(order, tiles, slots, m)));
-    cell(&ours, &straight, tiles);
-    BOTH(ours, must(kb_lookup(order, tiles, slots, m, at, at).number),
-         straight, must(straight_lookup(order, tiles, slots, m, at, at).number));
-    cell(&ours, &straight, tiles);
-    BOTH(ours, must(kb_part(order, tiles, slots, m, corner, 2).number),
-         straight, must(straight_part(order, tiles, slots, m, corner, 2).number));
-    cell(&ours, &straight, tiles);
-    BOTH(ours, must(kb_rights(order, tiles, slots, m, at, at, 9).number),
-         straight, must(straight_rights(order, tiles, slots, m, at, at, 9).number));
-    cell(&ours, &straight, tiles);
-    claims(b, m, corner);
-    memcpy(slots, b->list, tiles * sizeof *slots);
-    size_t length = kb_write(order, tiles, slots, m, b->file, KB_FILE_MOST(b->pixels)).length;
-    BOTH(ours, must(kb_write(order, tiles, slots, m, b->file, length).number),
-         straight, must(straight_write(order, tiles, slots, m, b->file, length).number));
-    cell(&ours, &straight, tiles);
-    BOTH(ours, must(kb_read(b->file, length, slots, tiles).number),
-         straight, must(straight_read(b->file, length, slots, tiles).number));
-    cell(&ours, &straight, tiles);
-    BOTH(ours, must(kb_decode(order, tiles, slots, m, b->raster, b->pixels)), straight,
-         must(straight_decode(order, tiles, slots, m, b->raster, b->pixels)));
-    cell(&ours, &straight, b->pixels);
-    BOTH(ours, must(kb_fresh(KB_ROWS, order, slots, b->pixels).number),
-         straight, must(straight_fresh(KB_ROWS, order, slots, b->pixels).number));
-    cell(&ours, &straight, b->pixels);
 }
 
 typedef kb_combine_answer combine_call(uint32_t, uint32_t, size_t, const uint32_t *, size_t,
@@ -226,10 +151,12 @@ static void all_feeds(struct bench *b)
     feeds(b, KB_MORTON);
 }
 
-/* The tables: what stands above each, and what makes a row of it, behind the order, the bed and its tiles. */
+/* The tables: what stands above each; what makes a row of it, behind the order, the bed and its tiles; and whether a
+   scan of boards half done has a row too. */
 static const struct table {
     const char *name, *above;
     void (*row)(struct bench *);
+    int half;
 } tables[] = {
     {"feeds",
      "Feeds: nanoseconds for each pixel, then the library's time divided by that of each other way. Every feed of the "
@@ -238,22 +165,33 @@ static const struct table {
      "| order | bed | tiles | slots lent | rows, at once | plain C | 001 | bottom-up | rows, row by row | plain C "
      "| 001 | Morton, at once | plain C | stack | Morton, row by row | plain C | stack |\n"
      "|---|---|---|---|---|---|---|---|---|---|---|---|---|---|---|---|---|\n",
-     all_feeds},
+     all_feeds, 0},
     {"calls",
      "\nOther calls: nanoseconds for each tile (decode: pixel; fresh: slot) × the library's time divided by that of "
      "straightforward C.\nEvery call but read and fresh checks the whole list first. For the roster, straightforward C "
-     "keeps an array of totals; the library counts each account from the list.\n\n"
+     "keeps an array of totals; the library counts each account from the list.\n"
+     "Of a scan half done, by rows, lookup, rights, preview and claim also check that each tile is scanned; it has no "
+     "file.\n\n"
      "| order | bed | tiles | check | lookup | part | rights | preview | claim | write | read | decode | fresh |\n"
      "|---|---|---|---|---|---|---|---|---|---|---|---|---|\n",
-     calls},
+     calls, 1},
     {"combine",
      "\nCombine: the bed inside and outside of reserved zones, 8 large rectangles. Nanoseconds for each tile of both "
      "maps and of the third\n× the library's time divided by that of straightforward C. Both check the two lists "
      "first.\n\n"
      "| order | bed | tiles | zones' tiles | tiles inside | inside | tiles outside | outside |\n"
      "|---|---|---|---|---|---|---|---|\n",
-     combines},
+     combines, 0},
 };
+
+static void print_row(const struct table *table, struct bench *b, const char *bed, const char *how)
+{
+    fprintf(stderr, "%s, order %u, %s%s\n", table->name, b->order, bed, how);
+    printf("| %u | %s%s | %zu ", b->order, bed, how, b->tiles);
+    table->row(b);
+    printf("|\n");
+    fflush(stdout);
+}
 
 static void print(const struct table *table, struct bench *b, uint32_t lowest, uint32_t highest)
 {
@@ -262,45 +200,17 @@ static void print(const struct table *table, struct bench *b, uint32_t lowest, u
         b->linked = linked_new(order);
         for (int kind = 0; kind < BED_KINDS; kind++) {
             set_up(b, kind, order);
-            fprintf(stderr, "%s, order %u, %s\n", table->name, order, bed_names[kind]);
-            printf("| %u | %s | %zu ", order, bed_names[kind], b->tiles);
-            table->row(b);
-            printf("|\n");
-            fflush(stdout);
+            print_row(table, b, bed_names[kind], "");
+            if (kind == 0 && table->half) {
+                halve(b);
+                print_row(table, b, bed_names[kind], ", half done");
+            }
         }
         linked_free(b->linked);
     }
 }
 
-/* The table of lookups on a bed with one held pixel, in its north-western corner: there, beside it, and in the free
-   south-eastern quarter of the bed. */
-static void lookups(uint32_t lowest, uint32_t highest)
-{
-    static const uint32_t word = 9;
-    struct timing ours, straight;
-    printf("\nLookups: on a bed of one tile, a pixel's. Nanoseconds for a call, the list's check included × the "
-           "library's time divided by that\nof straightforward C.\n\n"
-           "| order | the held pixel | a free pixel beside it | a free quarter of the bed |\n|---|---|---|---|\n");
-    for (uint32_t order = lowest; order <= highest; order++) {
-        const uint32_t last = (1u << order) - 1, places[][2] = {{0, 0}, {1, 0}, {last, last}};
-        printf("| %u ", order);
-        for (size_t i = 0; i < sizeof places / sizeof *places; i++) {
-            uint32_t column = places[i][0], row = places[i][1];
-            kb_lookup_answer one = kb_lookup(order, 1, &word, 1, column, row);
-            kb_lookup_answer other = straight_lookup(order, 1, &word, 1, column, row);
-            if (one.account != other.account || one.corner != other.corner || one.size != other.size) {
-                fprintf(stderr, "bench: straightforward C names another block\n");
-                exit(1);
-            }
-            BOTH(ours, must(kb_lookup(order, 1, &word, 1, column, row).number),
-                 straight, must(straight_lookup(order, 1, &word, 1, column, row).number));
-            cell(&ours, &straight, 1);
-        }
-        printf("|\n");
-    }
-}
-
-typedef kb_write_answer write_call(uint32_t, size_t, const uint32_t *, size_t, uint8_t *, size_t);
+typedef kb_write_answer write_call(uint32_t, uint32_t, uint32_t, size_t, const uint32_t *, size_t, uint8_t *, size_t);
 typedef kb_read_answer read_call(const uint8_t *, size_t, uint32_t *, size_t);
 
 /* A map file, and the two calls that write and read it. */
@@ -314,7 +224,8 @@ struct filing {
 static void write_file(void *handed)
 {
     struct filing *f = handed;
-    must(f->write(f->b->order, f->b->tiles, f->b->list, f->b->tiles, f->b->file, f->length).number);
+    const struct bench *b = f->b;
+    must(f->write(KB_ROWS, b->order, b->scanned, b->tiles, b->list, b->tiles, b->file, f->length).number);
 }
 
 static void read_file(void *handed)
@@ -334,11 +245,12 @@ static void rosters(struct bench *b, uint32_t order)
            "| order | accounts | tiles | write | read | stack to write | plain C | stack to read | plain C |\n"
            "|---|---|---|---|---|---|---|---|---|\n");
     b->order = order;
-    b->pixels = area(order);
+    b->pixels = b->scanned = area(order);
     for (size_t i = 0; i < sizeof accounts / sizeof *accounts; i++) {
         make_noise(accounts[i], order, b->rows);
         b->tiles = bottom_up(order, b->rows, b->list);
-        size_t length = kb_write(order, b->tiles, b->list, b->tiles, b->file, KB_FILE_MOST(b->pixels)).length;
+        size_t length = kb_write(KB_ROWS, order, b->scanned, b->tiles, b->list, b->tiles, b->file,
+                                 KB_FILE_MOST(b->pixels)).length;
         struct filing ours = {b, length, kb_write, kb_read}, straight = {b, length, straight_write, straight_read};
         memcpy(b->copy, b->file, length);
         memset(b->file, 0xff, length);

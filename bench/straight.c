@@ -71,10 +71,10 @@ uint32_t straight_decode(uint32_t order, size_t tiles, const uint32_t *slots, si
     return 0;
 }
 
-kb_lookup_answer straight_lookup(uint32_t order, size_t tiles, const uint32_t *slots, size_t slots_length,
-                                 uint32_t column, uint32_t row)
+kb_lookup_answer straight_lookup(uint32_t kind, uint32_t order, uint32_t pixels, size_t tiles,
+                                 const uint32_t *slots, size_t slots_length, uint32_t column, uint32_t row)
 {
-    kb_lookup_answer answer = {straight_check(order, tiles, slots, slots_length), 0, 0, 0};
+    kb_lookup_answer answer = {straight_opening(kind, order, pixels, tiles, slots, slots_length), 0, 0, 0};
     if (answer.number)
         return answer;
     if (column >> order || row >> order) {
@@ -82,6 +82,10 @@ kb_lookup_answer straight_lookup(uint32_t order, size_t tiles, const uint32_t *s
         return answer;
     }
     uint32_t z = straight_morton(column, row);
+    if ((kind == KB_ROWS ? row << order | column : z) >= pixels) {
+        answer.number = KB_UNSCANNED;
+        return answer;
+    }
     size_t at = find(tiles, slots, z);
     if (at < tiles && corner_of(slots[at]) <= z) {
         answer.account = account_of(slots[at]);
@@ -92,8 +96,9 @@ kb_lookup_answer straight_lookup(uint32_t order, size_t tiles, const uint32_t *s
     uint32_t from = at > 0 ? end_of(slots[at - 1]) : 0, upto = at < tiles ? corner_of(slots[at]) : area(order);
     answer.corner = z;
     for (uint32_t size = 1; size <= order; size++) {
-        uint32_t corner = z & ~(area(size) - 1);
-        if (corner < from || corner + area(size) > upto)
+        uint32_t corner = z & ~(area(size) - 1), end = corner + area(size), low = (1u << size) - 1;
+        uint32_t last = kind == KB_ROWS ? (row | low) << order | column | low : end - 1;
+        if (corner < from || end > upto || last >= pixels)
             break;
         answer.corner = corner;
         answer.size = size;
@@ -128,11 +133,12 @@ kb_part_answer straight_part(uint32_t order, size_t tiles, const uint32_t *slots
 
 static int class_of(uint8_t account) { return account <= 7 ? 0 : account <= 47 ? 1 : 2; }
 
-kb_rights_answer straight_rights(uint32_t order, size_t tiles, const uint32_t *slots, size_t slots_length,
-                                 uint32_t column, uint32_t row, uint8_t account)
+kb_rights_answer straight_rights(uint32_t kind, uint32_t order, uint32_t pixels, size_t tiles,
+                                 const uint32_t *slots, size_t slots_length, uint32_t column, uint32_t row,
+                                 uint8_t account)
 {
     static const uint8_t table[3][5] = {{1, 1, 1, 1, 0}, {1, 1, 0, 0, 0}, {1, 0, 0, 0, 0}};
-    kb_lookup_answer found = straight_lookup(order, tiles, slots, slots_length, column, row);
+    kb_lookup_answer found = straight_lookup(kind, order, pixels, tiles, slots, slots_length, column, row);
     kb_rights_answer answer = {found.number, 0};
     if (answer.number)
         return answer;
@@ -140,8 +146,8 @@ kb_rights_answer straight_rights(uint32_t order, size_t tiles, const uint32_t *s
         answer.number = KB_ASKER_INVALID;
         return answer;
     }
-    int kind = found.account == account ? 0 : found.account == 0 ? 1 : 4 - class_of(found.account);
-    answer.yes = table[class_of(account)][kind];
+    int ground = found.account == account ? 0 : found.account == 0 ? 1 : 4 - class_of(found.account);
+    answer.yes = table[class_of(account)][ground];
     return answer;
 }
 
@@ -216,20 +222,21 @@ static struct plan find_change(uint32_t order, size_t tiles, const uint32_t *slo
 }
 
 /* The checks of a claim and its plan: what the claim answers, with nothing stored. */
-static kb_claim_answer plan_claim(uint32_t order, size_t tiles, const uint32_t *slots, size_t slots_length,
-                                  uint32_t corner, uint32_t size, uint8_t account, struct plan *plan)
+static kb_claim_answer plan_claim(uint32_t kind, uint32_t order, uint32_t pixels, size_t tiles,
+                                  const uint32_t *slots, size_t slots_length, uint32_t corner, uint32_t size,
+                                  uint8_t account, struct plan *plan)
 {
-    kb_claim_answer answer = {straight_check(order, tiles, slots, slots_length), 0};
+    kb_claim_answer answer = {straight_opening(kind, order, pixels, tiles, slots, slots_length), 0};
     if (answer.number)
         return answer;
-    if (block_invalid(order, corner, size)) {
+    if (block_invalid(order, corner, size))
         answer.number = KB_BLOCK_INVALID;
-        return answer;
-    }
-    if (account > KB_HIGHEST_ACCOUNT) {
+    else if (straight_place(kind, order, corner + area(size) - 1) >= pixels)
+        answer.number = KB_UNSCANNED;
+    else if (account > KB_HIGHEST_ACCOUNT)
         answer.number = KB_ACCOUNT_TOO_LARGE;
+    if (answer.number)
         return answer;
-    }
     *plan = find_change(order, tiles, slots, corner, size, account);
     size_t after = tiles - (plan->high - plan->low) + plan->count;
     if (after > slots_length)
@@ -239,20 +246,21 @@ static kb_claim_answer plan_claim(uint32_t order, size_t tiles, const uint32_t *
     return answer;
 }
 
-kb_preview_answer straight_preview(uint32_t order, size_t tiles, const uint32_t *slots, size_t slots_length,
-                                   uint32_t corner, uint32_t size, uint8_t account)
+kb_preview_answer straight_preview(uint32_t kind, uint32_t order, uint32_t pixels, size_t tiles,
+                                   const uint32_t *slots, size_t slots_length, uint32_t corner, uint32_t size,
+                                   uint8_t account)
 {
     struct plan plan;
-    kb_claim_answer planned = plan_claim(order, tiles, slots, slots_length, corner, size, account, &plan);
+    kb_claim_answer planned = plan_claim(kind, order, pixels, tiles, slots, slots_length, corner, size, account, &plan);
     kb_preview_answer answer = {planned.number, planned.tiles};
     return answer;
 }
 
-kb_claim_answer straight_claim(uint32_t order, size_t tiles, uint32_t *slots, size_t slots_length,
-                               uint32_t corner, uint32_t size, uint8_t account)
+kb_claim_answer straight_claim(uint32_t kind, uint32_t order, uint32_t pixels, size_t tiles,
+                               uint32_t *slots, size_t slots_length, uint32_t corner, uint32_t size, uint8_t account)
 {
     struct plan plan;
-    kb_claim_answer answer = plan_claim(order, tiles, slots, slots_length, corner, size, account, &plan);
+    kb_claim_answer answer = plan_claim(kind, order, pixels, tiles, slots, slots_length, corner, size, account, &plan);
     if (answer.number)
         return answer;
     memmove(slots + plan.low + plan.count, slots + plan.high, (tiles - plan.high) * sizeof *slots);

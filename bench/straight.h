@@ -10,27 +10,33 @@ kb_feed_answer straight_feed(uint32_t kind, uint32_t order, uint32_t pixels, siz
                              const uint8_t *accounts, size_t accounts_length);
 uint32_t straight_decode(uint32_t order, size_t tiles, const uint32_t *slots, size_t slots_length,
                          uint8_t *raster, size_t raster_length);
-kb_lookup_answer straight_lookup(uint32_t order, size_t tiles, const uint32_t *slots, size_t slots_length,
-                                 uint32_t column, uint32_t row);
+kb_lookup_answer straight_lookup(uint32_t kind, uint32_t order, uint32_t pixels, size_t tiles,
+                                 const uint32_t *slots, size_t slots_length, uint32_t column, uint32_t row);
 kb_part_answer straight_part(uint32_t order, size_t tiles, const uint32_t *slots, size_t slots_length,
                              uint32_t corner, uint32_t size);
-kb_rights_answer straight_rights(uint32_t order, size_t tiles, const uint32_t *slots, size_t slots_length,
-                                 uint32_t column, uint32_t row, uint8_t account);
-kb_preview_answer straight_preview(uint32_t order, size_t tiles, const uint32_t *slots, size_t slots_length,
-                                   uint32_t corner, uint32_t size, uint8_t account);
-kb_claim_answer straight_claim(uint32_t order, size_t tiles, uint32_t *slots, size_t slots_length,
-                               uint32_t corner, uint32_t size, uint8_t account);
-kb_write_answer straight_write(uint32_t order, size_t tiles, const uint32_t *slots, size_t slots_length,
-                               uint8_t *file, size_t file_length);
+kb_rights_answer straight_rights(uint32_t kind, uint32_t order, uint32_t pixels, size_t tiles,
+                                 const uint32_t *slots, size_t slots_length, uint32_t column, uint32_t row,
+                                 uint8_t account);
+kb_preview_answer straight_preview(uint32_t kind, uint32_t order, uint32_t pixels, size_t tiles,
+                                   const uint32_t *slots, size_t slots_length, uint32_t corner, uint32_t size,
+                                   uint8_t account);
+kb_claim_answer straight_claim(uint32_t kind, uint32_t order, uint32_t pixels, size_t tiles,
+                               uint32_t *slots, size_t slots_length, uint32_t corner, uint32_t size, uint8_t account);
+kb_write_answer straight_write(uint32_t kind, uint32_t order, uint32_t pixels, size_t tiles,
+                               const uint32_t *slots, size_t slots_length, uint8_t *file, size_t file_length);
 kb_read_answer straight_read(const uint8_t *file, size_t file_length, uint32_t *slots, size_t slots_length);
 kb_combine_answer straight_combine(uint32_t choice,
                                    uint32_t order1, size_t tiles1, const uint32_t *slots1, size_t slots1_length,
                                    uint32_t order2, size_t tiles2, const uint32_t *slots2, size_t slots2_length,
                                    uint32_t *out, size_t out_length);
 
-/* Used by more than one of the files here. */
+/* Used by more than one of the files here. straight_place is how many places come before a pixel's own in a scan;
+   straight_opening has the scan checks. */
 uint32_t straight_morton(uint32_t column, uint32_t row);
 uint32_t straight_side(uint32_t morton);
+uint32_t straight_place(uint32_t kind, uint32_t order, uint32_t morton);
+uint32_t straight_opening(uint32_t kind, uint32_t order, uint32_t pixels, size_t tiles,
+                          const uint32_t *slots, size_t slots_length);
 
 static inline uint32_t area(uint32_t size) { return 1u << (2 * size); }
 static inline uint32_t corner_of(uint32_t word) { return word >> 10; }

@@ -19,8 +19,8 @@ static size_t cut(uint32_t from, uint32_t to, uint8_t account, uint32_t *list)
     return count;
 }
 
-/* The end of the run from `from` on, `to` at most, that the second map's tiles hold or leave free; *at is the first of
-   them that ends past `from`. */
+/* The end of the run from `from` on, `to` at most, that the second map's tiles hold, or that none of them does; *at is
+   the first of them that ends past `from`. */
 static uint32_t run_end(uint32_t from, uint32_t to, int held, size_t tiles, const uint32_t *slots, size_t *at)
 {
     if (!held)

@@ -13,12 +13,14 @@ static void put(uint8_t *at, uint32_t word)
 
 static uint32_t get(const uint8_t *at) { return (uint32_t)at[0] << 24 | (uint32_t)at[1] << 16 | (uint32_t)at[2] << 8 | at[3]; }
 
-kb_write_answer straight_write(uint32_t order, size_t tiles, const uint32_t *slots, size_t slots_length,
-                               uint8_t *file, size_t file_length)
+kb_write_answer straight_write(uint32_t kind, uint32_t order, uint32_t pixels, size_t tiles,
+                               const uint32_t *slots, size_t slots_length, uint8_t *file, size_t file_length)
 {
     uint32_t totals[KB_HIGHEST_ACCOUNT + 1] = {0};
     size_t accounts = 0;
-    kb_write_answer answer = {straight_check(order, tiles, slots, slots_length), 0};
+    kb_write_answer answer = {straight_opening(kind, order, pixels, tiles, slots, slots_length), 0};
+    if (!answer.number && pixels < area(order))
+        answer.number = KB_UNSCANNED;
     if (answer.number)
         return answer;
     for (size_t i = 0; i < tiles; i++)

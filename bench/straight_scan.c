@@ -16,22 +16,25 @@ kb_fresh_answer straight_fresh(uint32_t kind, uint32_t order, uint32_t *slots, s
     return answer;
 }
 
-/* A tile's last pixel is its south-eastern one, in either scan. */
-static uint32_t last_place(uint32_t kind, uint32_t order, uint32_t word)
+uint32_t straight_place(uint32_t kind, uint32_t order, uint32_t morton)
 {
-    uint32_t last = end_of(word) - 1;
-    return kind == KB_ROWS ? straight_side(last >> 1) << order | straight_side(last) : last;
+    return kind == KB_ROWS ? straight_side(morton >> 1) << order | straight_side(morton) : morton;
 }
 
-static uint32_t opening(uint32_t kind, uint32_t order, uint32_t pixels, size_t tiles, const uint32_t *slots, size_t slots_length)
+/* A tile's last pixel is its south-eastern one, in either scan. A finished scan has no pixel that a tile could cover
+   unscanned. */
+uint32_t straight_opening(uint32_t kind, uint32_t order, uint32_t pixels, size_t tiles,
+                          const uint32_t *slots, size_t slots_length)
 {
     uint32_t number = straight_check(order, tiles, slots, slots_length);
     if (number)
         return number;
     if (pixels > area(order))
         return KB_SCANNED_TOO_LARGE;
+    if (pixels == area(order))
+        return 0;
     for (size_t i = 0; i < tiles; i++)
-        if (last_place(kind, order, slots[i]) >= pixels)
+        if (straight_place(kind, order, end_of(slots[i]) - 1) >= pixels)
             return KB_TILE_UNSCANNED;
     return 0;
 }
@@ -40,8 +43,9 @@ kb_feed_answer straight_feed(uint32_t kind, uint32_t order, uint32_t pixels, siz
                              const uint8_t *accounts, size_t accounts_length)
 {
     kind = kind == KB_ROWS ? KB_ROWS : KB_MORTON;
-    kb_feed_answer answer = {opening(kind, order, pixels, tiles, slots, slots_length), 0, kind, order, pixels, tiles};
-    if (answer.number)
+    uint32_t number = straight_opening(kind, order, pixels, tiles, slots, slots_length);
+    kb_feed_answer answer = {number, 0, kind, order, pixels, tiles};
+    if (number)
         return answer;
     size_t front = tiles, back = slots_length, i = 0;
     for (; i < accounts_length; i++, pixels++) {

@@ -1,6 +1,6 @@
-/* A host program for the library: scans a bed with some boards on it, claims a block, shows the bed on a panel, goes
-   over it with a head, asks who may place where and what lies in the reserved zones, archives the map and reads it
-   back, and is refused something.
+/* A host program for the library: scans a bed with some boards on it, asks ahead of the camera, claims a block, shows
+   the bed on a panel, goes over it with a head, asks who may place where and what lies in the reserved zones, archives
+   the map and reads it back, and is refused something.
 
        gcc -O2 -Iinclude examples/beds.c target/staticlib/libkingletbed.a -o target/beds
        target/beds [MAP FILE]        bed.map unless named; kbmap draws it */
@@ -32,6 +32,7 @@ static const struct board boards[] = {
 #define CLAIM_COLUMN 40
 #define CLAIM_ROW 24
 #define CLAIM_SIZE 3
+#define CLAIM_SIDE (1 << CLAIM_SIZE)
 #define CLAIM_ACCOUNT 21
 
 /* What the camera would see: the account of each pixel, row after row. */
@@ -52,25 +53,39 @@ static void must(uint32_t number, const char *what)
     exit(1);
 }
 
+/* May a student place at a pixel while the scan goes on? Where the camera has not been, the answer is a refusal: that
+   no board was seen there does not make the ground free. */
+static void ask_early(const kb_scan *scan, uint32_t column, uint32_t row)
+{
+    kb_rights_answer right = kb_scan_rights(scan, column, row, 12);
+    printf("After %u pixels, student 12 at (%u, %u): %s.\n", scan->pixels, column, row,
+           right.number != KB_ACCEPTED ? kb_refusal_text(right.number) : right.yes ? "yes" : "no");
+}
+
 /* Feeds the bed row by row, as it comes from a camera. */
 static void feed_rows(kb_scan *scan, const uint8_t *raster)
 {
     size_t most = 0;
     for (int row = 0; row < SIDE; row++) {
+        if (row == SIDE / 2) {
+            ask_early(scan, 62, 2);
+            ask_early(scan, 62, 42);
+        }
         must(kb_scan_feed(scan, raster + row * SIDE, SIDE).number, "a feed");
         most = scan->tiles > most ? scan->tiles : most;
     }
     printf("Scanned %u pixels row by row: %zu tiles, at most %zu after a row.\n", scan->pixels, scan->tiles, most);
 }
 
-/* Claims the block if it is free: that no tile is inside would not be enough, but one lookup at its corner tells. What
-   it costs is told ahead. */
+/* Claims the block if it is free: that no tile is inside would not be enough, but one lookup at its last pixel, the
+   south-eastern one, tells. It would also be refused if the block were not wholly scanned. What the claim costs is told
+   ahead. */
 static void claim(kb_scan *scan)
 {
     kb_block_answer block = kb_block(ORDER, CLAIM_COLUMN, CLAIM_ROW, CLAIM_SIZE);
     must(block.number, "the block");
-    kb_lookup_answer found = kb_scan_lookup(scan, CLAIM_COLUMN, CLAIM_ROW);
-    must(found.number, "the lookup at the block's corner");
+    kb_lookup_answer found = kb_scan_lookup(scan, CLAIM_COLUMN + CLAIM_SIDE - 1, CLAIM_ROW + CLAIM_SIDE - 1);
+    must(found.number, "the lookup at the block's last pixel");
     int nobodys = found.account == 0 && found.size >= CLAIM_SIZE;
     printf("The block of 8 by 8 pixels at column %d, row %d is %s.\n", CLAIM_COLUMN, CLAIM_ROW,
            nobodys ? "nobody's" : "held");
@@ -85,8 +100,9 @@ static void claim(kb_scan *scan)
 }
 
 /* The panel: 16 by 16 cells, each a block of 4 by 4 pixels. A cell under a larger tile has no tile inside and is held
-   all the same: drawn by the tiles of kb_scan_part it would look free. One lookup in it tells: where the block that it
-   names is at least as large as the cell, the cell has one account, and else it has not. */
+   all the same: drawn by the tiles of kb_scan_part it would look free. One lookup at its last pixel tells: where the
+   block that it names is at least as large as the cell, the cell has one account, and else it has not. In a cell that
+   is not wholly scanned it would be refused. */
 #define CELLS 16
 #define CELL_SIZE 2
 #define CELL_SIDE (SIDE / CELLS)
@@ -97,8 +113,8 @@ static void panel(const kb_scan *scan)
     printf("The bed, an account for each cell (. nobody's, + not all of one):\n");
     for (uint32_t row = 0; row < CELLS; row++) {
         for (uint32_t column = 0; column < CELLS; column++) {
-            kb_lookup_answer found = kb_scan_lookup(scan, column * CELL_SIDE, row * CELL_SIDE);
-            must(found.number, "the lookup at a cell's corner");
+            kb_lookup_answer found = kb_scan_lookup(scan, (column + 1) * CELL_SIDE - 1, (row + 1) * CELL_SIDE - 1);
+            must(found.number, "the lookup at a cell's last pixel");
             if (found.size < CELL_SIZE)
                 printf("  +");
             else if (found.account == 0)
@@ -149,7 +165,8 @@ static void ask(const kb_scan *scan, uint32_t account, uint32_t column, uint32_t
 }
 
 /* The reserved zones are a map of their own: two blocks of 16 by 16 pixels, where the head parks and where it changes
-   nozzles. Account 1 holds them there; any would do. */
+   nozzles. Account 1 holds them there; any would do. They are drawn on a bed that was scanned empty, since unscanned
+   ground cannot be claimed. */
 #define ZONE_SIZE 4
 
 static void reserve(kb_scan *zones, uint32_t column, uint32_t row)
@@ -178,9 +195,11 @@ static void holders(const kb_scan *scan, const char *where)
 /* What of the bed lies inside the zones, and what outside: two further maps, each in slots of its own. */
 static void reserved(const kb_scan *bed)
 {
+    static const uint8_t empty[PIXELS];
     static uint32_t zone_slots[2], inside_slots[PIXELS], outside_slots[PIXELS];
     kb_scan zones = {0}, inside = {0}, outside = {0};
     must(kb_scan_fresh(&zones, KB_ROWS, ORDER, zone_slots, 2), "the fresh zones");
+    must(kb_scan_feed(&zones, empty, PIXELS).number, "the empty bed of the zones");
     reserve(&zones, 0, 0);
     reserve(&zones, 48, 48);
     must(kb_scan_combine(&inside, KB_INSIDE, bed, &zones, inside_slots, PIXELS), "the bed inside the zones");

@@ -10,11 +10,18 @@
               north-west pixel, a multiple of 4^size; the tile covers the numbers from corner to corner + 4^size - 1.
      word     a tile in 32 bits: corner in bits 29 to 10, size in bits 9 to 6, account in bits 5 to 0, bits 31 and 30
               zero.
-     block    a square that a tile could cover, given by corner and size.
+     block    a square that a tile could cover, given by corner and size. Its last pixel, the south-eastern one, has the
+              Morton number corner + 4^size - 1.
      map      an order, a tile count and the slots whose first `tiles` words are the list. The list of a bed is its
               largest uniform blocks of non-zero accounts, by rising corner: one list for each bed.
-     scan     a map being filled: besides order and tile count the kind of scan and the pixels scanned so far. A kb_scan
-              is a scan with its slots: with it no count is copied by hand.
+     scan     a map and how far it is known: besides order and tile count the kind of scan and the number of pixels
+              scanned so far. These four are its record, handed over as kind, order, pixels, tiles. With 4^order pixels
+              the scan is finished. A kb_scan is a scan with its slots: with it no number is copied by hand.
+     scanned  is a pixel if fewer than `pixels` places come before its own in the scan of that kind, row after row
+              (KB_ROWS) or by rising Morton number (KB_MORTON). A block is wholly scanned just if its last pixel is
+              scanned, in both kinds.
+     free     is ground that is nobody's and scanned. Where a list has no tile, the ground may also be unscanned: then
+              nothing is known of it.
 
    Calling
      Nothing is allocated and nothing is kept between calls: a call works on its arguments alone, so calls on separate
@@ -38,7 +45,10 @@
      "The list checks" are these, and every call on a map but kb_fresh and kb_read begins with them:
        KB_ORDER_TOO_LARGE, KB_COUNT_ABOVE_SLOTS, then for each word from the first on KB_HIGH_BITS_SET,
        KB_SIZE_ABOVE_ORDER, KB_CORNER_INVALID, KB_ACCOUNT_ZERO, KB_TILES_OVERLAP, KB_SIBLINGS_UNMERGED. The first bad
-       word decides. */
+       word decides.
+     "The scan checks" are the list checks, then KB_SCANNED_TOO_LARGE, KB_TILE_UNSCANNED. Every call that is handed a
+       record begins with them. From kb_fresh or kb_read on, records and slots that go on as each call leaves them break
+       none of these. */
 
 #ifndef KINGLETBED_H
 #define KINGLETBED_H
@@ -46,7 +56,7 @@
 #include <stddef.h>
 #include <stdint.h>
 
-#define KB_VERSION "0.6.0"
+#define KB_VERSION "0.7.0"
 
 /* An answer that is dropped is a mistake, of which the compiler warns. */
 #if (defined(__cplusplus) && __cplusplus >= 201703L) || (defined(__STDC_VERSION__) && __STDC_VERSION__ >= 202311L)
@@ -120,7 +130,9 @@ enum kb_number {
     KB_TRAILING_BYTES = 42,     /* bytes follow the roster */
     KB_ROSTER_WRONG = 43,       /* the roster does not have each account of the tiles once, with the pixels it covers */
 
-    KB_ORDERS_DIFFER = 51       /* the two maps have different orders */
+    KB_ORDERS_DIFFER = 51,      /* the two maps have different orders */
+    KB_UNSCANNED = 52           /* the point is unscanned, the block has an unscanned pixel, or the scan to be written
+                                   is unfinished */
 };
 
 /* The answers. kb_check and kb_decode answer the number alone, kb_tile_corner, kb_tile_size and kb_tile_account the
@@ -166,7 +178,9 @@ KB_MUST_USE uint32_t kb_tile_corner(uint32_t word);
 KB_MUST_USE uint32_t kb_tile_size(uint32_t word);
 KB_MUST_USE uint8_t kb_tile_account(uint32_t word);
 
-/* ---- Calls on a map ---- */
+/* ---- Calls on a map ----
+   kb_feed, kb_lookup, kb_rights, kb_claim, kb_preview and kb_write are handed a scan's record. kb_check, kb_decode,
+   kb_part and kb_combine are handed order and tile count alone, and take an unscanned pixel as nobody's. */
 
 /* List checking: is this a map?
      refuses   the list checks
@@ -181,40 +195,42 @@ KB_MUST_USE uint32_t kb_check(uint32_t order, size_t tiles, const uint32_t *slot
 KB_MUST_USE kb_fresh_answer kb_fresh(uint32_t kind, uint32_t order, uint32_t *slots, size_t slots_length);
 
 /* Goes on with a scan: each account is that of the next pixel, row after row (KB_ROWS) or by rising Morton number
-   (KB_MORTON). After each pixel the list is the list of the bed with that pixel in its place; an unscanned pixel counts
-   as nobody's. Hand over as many accounts at once as you have, or none.
-     refuses   the list checks, KB_SCANNED_TOO_LARGE, KB_TILE_UNSCANNED: these open the feed; then at each pixel
-               KB_SCAN_FULL, KB_ACCOUNT_TOO_LARGE, KB_SLOTS_EXCEEDED. A list that the pixel's merge shortens enough is
-               not refused.
-     answers   how many accounts were taken, and the record to go on with. An opening check gives back the record handed
-               in, with 0 taken. A feed stopped at a pixel keeps the pixels before it and has their count and record.
-     storage   past the opening checks the slots hold the list of the pixels taken, and 0 from its end on, also when the
-               feed was stopped at its first pixel or had none; refused by an opening check, they are as they were */
+   (KB_MORTON). After each pixel the list is the list of the bed with that pixel in its place, and with no tile on the
+   pixels that are not scanned yet. Hand over as many accounts at once as you have, or none.
+     refuses   the scan checks, which open the feed; then at each pixel KB_SCAN_FULL, KB_ACCOUNT_TOO_LARGE,
+               KB_SLOTS_EXCEEDED. A list that the pixel's merge shortens enough is not refused.
+     answers   how many accounts were taken, and the record to go on with. A scan check gives back the record handed in,
+               with 0 taken. A feed stopped at a pixel keeps the pixels before it and has their count and record.
+     storage   past the scan checks the slots hold the list of the pixels taken, and 0 from its end on, also when the
+               feed was stopped at its first pixel or had none; refused by a scan check, they are as they were */
 KB_MUST_USE kb_feed_answer kb_feed(uint32_t kind, uint32_t order, uint32_t pixels, size_t tiles,
                                    uint32_t *slots, size_t slots_length,
                                    const uint8_t *accounts, size_t accounts_length);
 
-/* Decodes a map to one account byte for each pixel, row after row from the north-west.
+/* Decodes a map to one account byte for each pixel, row after row from the north-west. An unscanned pixel gets 0, as a
+   free one does: the raster does not tell them apart.
      refuses   the list checks, KB_RASTER_LENGTH
      storage   accepted, all 4^order bytes are written; refused, they are as they were */
 KB_MUST_USE uint32_t kb_decode(uint32_t order, size_t tiles, const uint32_t *slots, size_t slots_length,
                                uint8_t *raster, size_t raster_length);
 
-/* The account at a pixel, 0 for nobody's, and the largest block with the pixel in it that has this account on all its
-   pixels: for somebody's pixel its tile, for nobody's the largest block that is wholly nobody's. Every pixel of the
-   block gives this answer and no other pixel does, and kb_rights answers alike on all of it: a head that stays inside
-   need not ask again while the map stays as it is (kb_lookup_has). An unscanned pixel counts as nobody's.
-     refuses   the list checks, KB_POINT_OUTSIDE; account, corner and size are then 0, which says nothing: nobody's
-               pixel (0, 0) can have these too, so look at the number first
+/* The account at a scanned pixel, 0 for nobody's, and the largest block with the pixel in it that is wholly scanned and
+   has this account on all its pixels: for somebody's pixel its tile, for nobody's the largest block that is all free.
+   Every pixel of the block gives this answer and no other pixel does, and kb_rights answers alike on all of it: a head
+   that stays inside need not ask again while the scan stays as it is (kb_lookup_has).
+     refuses   the scan checks, KB_POINT_OUTSIDE, KB_UNSCANNED; account, corner and size are then 0, which says nothing:
+               the free pixel (0, 0) can have these too, so look at the number first
      storage   nothing is written */
-KB_MUST_USE kb_lookup_answer kb_lookup(uint32_t order, size_t tiles, const uint32_t *slots, size_t slots_length,
-                                       uint32_t column, uint32_t row);
+KB_MUST_USE kb_lookup_answer kb_lookup(uint32_t kind, uint32_t order, uint32_t pixels, size_t tiles,
+                                       const uint32_t *slots, size_t slots_length, uint32_t column, uint32_t row);
 
 /* The tiles that lie wholly inside a block: `length` tiles of the list from `position` on. The position is the number
    of tiles with a smaller corner than the block's. kb_part_tiles gives a pointer instead.
-   A block under a larger tile has no tile inside: an EMPTY PART MAY BE HELD GROUND, and a panel that draws the part's
-   tiles shows it as free. One kb_lookup at any pixel of the block tells: if it names a block of this size or a larger
-   one, the whole block has the account answered, and else it has not one account. kb_scan_shown does so.
+   A block under a larger tile has no tile inside, nor has one that the scan has not reached: an EMPTY PART MAY BE HELD
+   GROUND, OR UNSCANNED, and a panel that draws the part's tiles shows it as free. One kb_lookup at the block's last
+   pixel, whose column and row kb_point has, tells: if it is refused with KB_UNSCANNED, the block is not wholly scanned;
+   if it names a block of this size or a larger one, the whole block has the account answered; and else it has not one
+   account. kb_scan_shown does so.
      refuses   the list checks, KB_BLOCK_INVALID
      storage   nothing is written */
 KB_MUST_USE kb_part_answer kb_part(uint32_t order, size_t tiles, const uint32_t *slots, size_t slots_length,
@@ -225,50 +241,56 @@ KB_MUST_USE kb_part_answer kb_part(uint32_t order, size_t tiles, const uint32_t 
        staff      yes         yes        yes               yes                 no
        students   yes         yes        no                no                  no
        guests     yes         no         no                no                  no
-   An account cut to a byte on its way here, 257 to 1, asks as another: see kb_account_byte.
-     refuses   the list checks, KB_POINT_OUTSIDE, KB_ASKER_INVALID
+   Unscanned ground is refused, whoever asks. An account cut to a byte on its way here, 257 to 1, asks as another: see
+   kb_account_byte.
+     refuses   the scan checks, KB_POINT_OUTSIDE, KB_UNSCANNED, KB_ASKER_INVALID
      storage   nothing is written */
-KB_MUST_USE kb_rights_answer kb_rights(uint32_t order, size_t tiles, const uint32_t *slots, size_t slots_length,
-                                       uint32_t column, uint32_t row, uint8_t account);
+KB_MUST_USE kb_rights_answer kb_rights(uint32_t kind, uint32_t order, uint32_t pixels, size_t tiles,
+                                       const uint32_t *slots, size_t slots_length, uint32_t column, uint32_t row,
+                                       uint8_t account);
 
 /* Gives every pixel of a block to an account; account 0 releases them. An account cut to a byte on its way here, 256 to
-   0, releases them too: hand over kb_account_byte(account) if yours may not fit.
-     refuses   the list checks, KB_BLOCK_INVALID, KB_ACCOUNT_TOO_LARGE, KB_SLOTS_EXCEEDED
+   0, releases them too: hand over kb_account_byte(account) if yours may not fit. A map that is no scan of yours is
+   handed over with kind KB_ROWS and 4^order pixels, here and wherever a record is asked for, but only if every pixel of
+   it is known: ground that nobody has looked at would be answered as free.
+     refuses   the scan checks, KB_BLOCK_INVALID, KB_UNSCANNED (a release too), KB_ACCOUNT_TOO_LARGE, KB_SLOTS_EXCEEDED
      answers   the new tile count. The old one no longer goes with these slots: it may cut tiles off the list, whose
-               ground then reads as free. A scan goes on with the new one in its record; while a claim has a tile on a
-               pixel that the scan has not reached, kb_feed refuses with KB_TILE_UNSCANNED.
+               ground then reads as free. The record goes on with the new tile count and the same pixels, so that an
+               unfinished scan can be fed on.
      storage   accepted, the slots hold the list of the changed bed, and 0 from its end on; refused, they are as they
                were */
-KB_MUST_USE kb_claim_answer kb_claim(uint32_t order, size_t tiles, uint32_t *slots, size_t slots_length,
-                                     uint32_t corner, uint32_t size, uint8_t account);
+KB_MUST_USE kb_claim_answer kb_claim(uint32_t kind, uint32_t order, uint32_t pixels, size_t tiles,
+                                     uint32_t *slots, size_t slots_length, uint32_t corner, uint32_t size,
+                                     uint8_t account);
 
 /* Tells what a claim would come to, before it is made: what kb_claim would answer to the same arguments on a copy of
    the list with as many slots, whatever stands behind the list. Account 0 previews a release; so does one cut to a byte
-   on its way here, 256 to 0: see kb_account_byte. The answer holds while map and number of slots stay as they are.
-     refuses   the list checks, KB_BLOCK_INVALID, KB_ACCOUNT_TOO_LARGE, KB_SLOTS_EXCEEDED, as kb_claim does
+   on its way here, 256 to 0: see kb_account_byte. The answer holds while scan and number of slots stay as they are.
+     refuses   as kb_claim: the scan checks, KB_BLOCK_INVALID, KB_UNSCANNED, KB_ACCOUNT_TOO_LARGE, KB_SLOTS_EXCEEDED
      answers   the tile count that the claim would leave. Before the claim is made it is not the count of these slots
      storage   nothing is written */
-KB_MUST_USE kb_preview_answer kb_preview(uint32_t order, size_t tiles, const uint32_t *slots, size_t slots_length,
-                                         uint32_t corner, uint32_t size, uint8_t account);
+KB_MUST_USE kb_preview_answer kb_preview(uint32_t kind, uint32_t order, uint32_t pixels, size_t tiles,
+                                         const uint32_t *slots, size_t slots_length, uint32_t corner, uint32_t size,
+                                         uint8_t account);
 
-/* Writes a map as a file: the order in 1 byte; the tile count in 4 and each word in 4; the number of roster entries in
-   1 and each entry in 5, an account in 1 byte and the number of its pixels in 4, as many as kb_decode writes for it.
-   High bytes come first. Every account that has tiles gets one entry, by rising account. With t tiles and a such
-   accounts the file is 6 + 4t + 5a bytes long.
-     refuses   the list checks, KB_BYTES_TOO_FEW
+/* Writes the map of a finished scan as a file: the order in 1 byte; the tile count in 4 and each word in 4; the number
+   of roster entries in 1 and each entry in 5, an account in 1 byte and the number of its pixels in 4, as many as
+   kb_decode writes for it. High bytes come first. Every account that has tiles gets one entry, by rising account. With
+   t tiles and a such accounts the file is 6 + 4t + 5a bytes long.
+     refuses   the scan checks, KB_UNSCANNED for an unfinished scan, KB_BYTES_TOO_FEW
      answers   the bytes written
      storage   accepted, the first bytes hold the file and those past it are as they were; refused, all are */
-KB_MUST_USE kb_write_answer kb_write(uint32_t order, size_t tiles, const uint32_t *slots, size_t slots_length,
-                                     uint8_t *file, size_t file_length);
+KB_MUST_USE kb_write_answer kb_write(uint32_t kind, uint32_t order, uint32_t pixels, size_t tiles,
+                                     const uint32_t *slots, size_t slots_length, uint8_t *file, size_t file_length);
 
 /* Bytes that are enough for a file of so many tiles: a constant if the count is one; it is evaluated more than once. No
    list has more than KB_MOST_SLOTS tiles, so a larger count is taken as that, and nothing wraps. */
 #define KB_FILE_MOST(tiles) (6 + 4 * KB_AT_MOST(tiles, KB_MOST_SLOTS) + 5 * KB_AT_MOST(tiles, KB_HIGHEST_ACCOUNT))
 #define KB_AT_MOST(count, most) ((uint64_t)(count) < (most) ? (size_t)(count) : (size_t)(most))
 
-/* Reads a file to a map; a scan record made of it is by rows with all 4^order pixels scanned. Every account that has
-   tiles must have one entry in the roster, with the number of its pixels, and no other account may. The order of the
-   entries does not matter.
+/* Reads a file to a map, which is wholly scanned: its record is of the kind KB_ROWS, with the order and the tile count
+   answered and 4^order pixels, which kb_extent has. Every account that has tiles must have one entry in the roster,
+   with the number of its pixels, and no other account may. The order of the entries does not matter.
      refuses   as the file goes: KB_FILE_CUT_SHORT wherever the bytes end before an item; KB_ORDER_TOO_LARGE;
                KB_SLOTS_EXCEEDED for its tile count; KB_HIGH_BITS_SET to KB_SIBLINGS_UNMERGED at each word; after the
                roster KB_TRAILING_BYTES, then KB_ROSTER_WRONG
@@ -280,7 +302,8 @@ KB_MUST_USE kb_read_answer kb_read(const uint8_t *file, size_t file_length, uint
    those where the second is nobody's (KB_OUTSIDE); every other pixel is nobody's. With reserved zones as the second map
    it tells what of a bed lies inside of them, or outside; whose a zone is does not matter. In terms of sets, inside is
    the intersection of the first map with the second one's held ground, outside their difference. An unscanned pixel
-   counts as nobody's in both maps.
+   counts as nobody's in both maps. What the third map holds, the first holds and so has scanned: the third map's record
+   has kind, order and pixels of the first, and its own tile count.
      refuses   the list checks of the first map, the list checks of the second, KB_ORDERS_DIFFER, KB_SLOTS_EXCEEDED. The
                number of a list check does not say which of the two maps broke it; kb_check does.
      answers   the third map's tile count, the only one that goes with `out`. It may be above those of the two maps
@@ -292,9 +315,9 @@ KB_MUST_USE kb_combine_answer kb_combine(uint32_t choice,
                                          uint32_t order2, size_t tiles2, const uint32_t *slots2, size_t slots2_length,
                                          uint32_t *out, size_t out_length);
 
-/* 1 if a pixel lies in the block that a lookup named, so that kb_lookup there would answer the same, while the map
+/* 1 if a pixel lies in the block that a lookup named, so that kb_lookup there would answer the same, while the scan
    stays as it is; else 0. A refused lookup names no block: 0. Numbers of 64 bits are taken, and none is cut.
-   A head that has not asked yet begins with KB_NO_LOOKUP, not with zeros: they say that pixel (0, 0) is nobody's. */
+   A head that has not asked yet begins with KB_NO_LOOKUP, not with zeros: they say that pixel (0, 0) is free. */
 #define KB_NO_LOOKUP {KB_POINT_OUTSIDE, 0, 0, 0}
 KB_MUST_USE static inline uint8_t kb_lookup_has(kb_lookup_answer found, uint64_t column, uint64_t row)
 {
@@ -313,8 +336,8 @@ KB_MUST_USE static inline kb_part_tiles_answer kb_part_tiles(uint32_t order, siz
 }
 
 /* ---- The scan with its slots ----
-   Begin with `kb_scan scan = {0};` (in C++ `= {};`), an empty bed of order 0 without slots; then kb_scan_fresh,
-   kb_scan_read or kb_scan_combine. Each function makes the call of its name on the numbers and slots of the scan, or of
+   Begin with `kb_scan scan = {0};` (in C++ `= {};`), a bed of order 0, unscanned and without slots; then kb_scan_fresh,
+   kb_scan_read or kb_scan_combine. Each function makes the call of its name on the record and slots of the scan, or of
    the two that are combined, refuses what that call refuses and brings the scan up to date; where the rest of an answer
    goes into the scan, it answers the number alone. Numbers of 64 bits are taken, and none is cut: one that does not fit
    is refused as too large, but for a kind or a choice, which is KB_MORTON or KB_OUTSIDE as any number other than 0.
@@ -351,10 +374,10 @@ KB_MUST_USE static inline uint32_t kb_scan_read(kb_scan *scan, const uint8_t *fi
     return read.number;
 }
 
-/* Accepted, the scan is the third map, by rows and with every pixel: those that one of the two maps has not scanned yet
-   are nobody's, and scanned. Refused, it is as it was, with the slots that it had. It may be the very `first` or
-   `second`, and then has the slots handed in instead of its own. Those are apart from the slots of both maps: never hand
-   in the slots of one of them. */
+/* Accepted, the scan is the third map, of the first one's kind and with as many pixels scanned: what the first has not
+   scanned stays unscanned, and what the second has not counts as nobody's there. Refused, it is as it was, with the
+   slots that it had. It may be the very `first` or `second`, and then has the slots handed in instead of its own. Those
+   are apart from the slots of both maps: never hand in the slots of one of them. */
 KB_MUST_USE static inline uint32_t kb_scan_combine(kb_scan *scan, uint64_t choice,
                                                    const kb_scan *first, const kb_scan *second,
                                                    uint32_t *slots, size_t slots_length)
@@ -363,9 +386,9 @@ KB_MUST_USE static inline uint32_t kb_scan_combine(kb_scan *scan, uint64_t choic
                                             first->order, first->tiles, first->slots, first->slots_length,
                                             second->order, second->tiles, second->slots, second->slots_length,
                                             slots, slots_length);
-    if (combined.number == KB_ACCEPTED) { /* so that kb_extent accepts the order */
-        kb_scan whole = {KB_ROWS, first->order, kb_extent(first->order).pixels, combined.tiles, slots, slots_length};
-        *scan = whole;
+    if (combined.number == KB_ACCEPTED) {
+        kb_scan third = {first->kind, first->order, first->pixels, combined.tiles, slots, slots_length};
+        *scan = third;
     }
     return combined.number;
 }
@@ -382,10 +405,11 @@ KB_MUST_USE static inline kb_feed_answer kb_scan_feed(kb_scan *scan, const uint8
     return fed;
 }
 
-/* Every account above 63 is KB_ACCOUNT_TOO_LARGE, 256 too. */
+/* Every account above 63 is KB_ACCOUNT_TOO_LARGE, 256 too. The pixels scanned stay the same: the scan can be fed on. */
 KB_MUST_USE static inline uint32_t kb_scan_claim(kb_scan *scan, uint64_t corner, uint64_t size, uint64_t account)
 {
-    kb_claim_answer claimed = kb_claim(scan->order, scan->tiles, scan->slots, scan->slots_length,
+    kb_claim_answer claimed = kb_claim(scan->kind, scan->order, scan->pixels, scan->tiles,
+                                       scan->slots, scan->slots_length,
                                        kb_number_word(corner), kb_number_word(size), kb_account_byte(account));
     if (claimed.number == KB_ACCEPTED)
         scan->tiles = claimed.tiles;
@@ -397,7 +421,7 @@ KB_MUST_USE static inline uint32_t kb_scan_claim(kb_scan *scan, uint64_t corner,
 KB_MUST_USE static inline kb_preview_answer kb_scan_preview(const kb_scan *scan, uint64_t corner, uint64_t size,
                                                             uint64_t account)
 {
-    return kb_preview(scan->order, scan->tiles, scan->slots, scan->slots_length,
+    return kb_preview(scan->kind, scan->order, scan->pixels, scan->tiles, scan->slots, scan->slots_length,
                       kb_number_word(corner), kb_number_word(size), kb_account_byte(account));
 }
 
@@ -413,7 +437,7 @@ KB_MUST_USE static inline uint32_t kb_scan_decode(const kb_scan *scan, uint8_t *
 
 KB_MUST_USE static inline kb_lookup_answer kb_scan_lookup(const kb_scan *scan, uint64_t column, uint64_t row)
 {
-    return kb_lookup(scan->order, scan->tiles, scan->slots, scan->slots_length,
+    return kb_lookup(scan->kind, scan->order, scan->pixels, scan->tiles, scan->slots, scan->slots_length,
                      kb_number_word(column), kb_number_word(row));
 }
 
@@ -421,40 +445,53 @@ KB_MUST_USE static inline kb_lookup_answer kb_scan_lookup(const kb_scan *scan, u
 KB_MUST_USE static inline kb_rights_answer kb_scan_rights(const kb_scan *scan, uint64_t column, uint64_t row,
                                                           uint64_t account)
 {
-    return kb_rights(scan->order, scan->tiles, scan->slots, scan->slots_length,
+    return kb_rights(scan->kind, scan->order, scan->pixels, scan->tiles, scan->slots, scan->slots_length,
                      kb_number_word(column), kb_number_word(row), kb_account_byte(account));
 }
 
-/* A pointer into the scan's slots, good until the scan changes. An empty part may be held ground: see kb_part. */
+/* A pointer into the scan's slots, good until the scan changes. An empty part may be held ground, or unscanned: see
+   kb_part. */
 KB_MUST_USE static inline kb_part_tiles_answer kb_scan_part(const kb_scan *scan, uint64_t corner, uint64_t size)
 {
     return kb_part_tiles(scan->order, scan->tiles, scan->slots, scan->slots_length,
                          kb_number_word(corner), kb_number_word(size));
 }
 
-/* What a panel draws of a block. `account` is that of all its pixels, 0 for nobody's, also under a larger tile; if they
-   have not all one account, it is KB_NO_ACCOUNT: then draw the part, `length` tiles from `tiles` on, and the ground
-   between them is nobody's. Refused, the part is empty and the account KB_NO_ACCOUNT.
-     refuses   the list checks, KB_BLOCK_INVALID */
-typedef struct { uint32_t number; const uint32_t *tiles; size_t length; uint8_t account; } kb_shown_answer;
+/* What a panel draws of a block. `scanned` is 1 if every pixel of it is scanned, and else 0. `account` is that of all
+   its pixels, 0 for nobody's, also under a larger tile. If they have not all one account, or are not all scanned, it is
+   KB_NO_ACCOUNT: then draw the part, `length` tiles from `tiles` on. Where `scanned` is 1, the ground between these is
+   free; where it is 0, it is nobody's or not scanned yet. So KB_UNSCANNED is no refusal here. Refused, the part is
+   empty, the account KB_NO_ACCOUNT and `scanned` 0.
+     refuses   the list checks, KB_BLOCK_INVALID, KB_SCANNED_TOO_LARGE, KB_TILE_UNSCANNED */
+typedef struct { uint32_t number; const uint32_t *tiles; size_t length; uint8_t account; uint8_t scanned; }
+    kb_shown_answer;
 
 KB_MUST_USE static inline kb_shown_answer kb_scan_shown(const kb_scan *scan, uint64_t corner, uint64_t size)
 {
     kb_part_tiles_answer part = kb_scan_part(scan, corner, size);
-    kb_shown_answer shown = {part.number, part.tiles, part.length, KB_NO_ACCOUNT};
-    if (part.number == KB_ACCEPTED && part.length < 2) { /* with two tiles inside it has not one account */
-        kb_point_answer at = kb_point(scan->order, kb_number_word(corner));
-        kb_lookup_answer found = kb_scan_lookup(scan, at.column, at.row);
-        if (found.number == KB_ACCEPTED && size <= found.size) /* a refusal, of size 0, must not look free */
+    kb_shown_answer shown = {part.number, part.tiles, part.length, KB_NO_ACCOUNT, 0};
+    if (part.number != KB_ACCEPTED)
+        return shown;
+    uint32_t last = kb_number_word(corner) + kb_extent(kb_number_word(size)).pixels - 1; /* of a block, so on the bed */
+    kb_point_answer at = kb_point(scan->order, last);
+    kb_lookup_answer found = kb_scan_lookup(scan, at.column, at.row);
+    if (found.number == KB_ACCEPTED) {
+        shown.scanned = 1;
+        if (size <= found.size)
             shown.account = found.account;
+    } else if (found.number != KB_UNSCANNED) { /* pixels that do not go with this list */
+        kb_shown_answer refused = {found.number, scan->slots, 0, KB_NO_ACCOUNT, 0};
+        return refused;
     }
     return shown;
 }
 
-/* A file does not say how far a scan is: read back, the pixels not scanned yet are nobody's, and scanned. */
+/* An unfinished scan is refused with KB_UNSCANNED: a file does not say how far a scan is, and read back has all pixels
+   scanned. */
 KB_MUST_USE static inline kb_write_answer kb_scan_write(const kb_scan *scan, uint8_t *file, size_t file_length)
 {
-    return kb_write(scan->order, scan->tiles, scan->slots, scan->slots_length, file, file_length);
+    return kb_write(scan->kind, scan->order, scan->pixels, scan->tiles, scan->slots, scan->slots_length,
+                    file, file_length);
 }
 
 /* ---- Texts ---- */
@@ -487,6 +524,7 @@ KB_MUST_USE static inline const char *kb_refusal_text(uint32_t number)
     case KB_TRAILING_BYTES: return "bytes follow the end of the file's roster";
     case KB_ROSTER_WRONG: return "the file's roster does not match its tiles";
     case KB_ORDERS_DIFFER: return "the two maps have different orders";
+    case KB_UNSCANNED: return "the pixel, the block or the bed is not wholly scanned yet";
     default: return "a number that this version does not know";
     }
 }

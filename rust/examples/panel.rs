@@ -1,6 +1,7 @@
 //! A panel that draws a bed one block of 2 by 2 pixels at a time, and the trap in it: a block under a larger tile has
 //! no tile inside, so that a panel which draws the block's part shows held ground as free. One lookup tells whether a
-//! block has one account; where it has not, its part has its tiles. `Bed::shown` gives the same as tiles.
+//! block has one account; where it has not, its part has its tiles. `Bed::shown` gives the same as tiles. The bed is
+//! wholly scanned: on a scan that goes on, a block that is not (`Bed::is_block_scanned`) needs a mark of its own.
 //!
 //!     cargo run --example panel
 

@@ -1,4 +1,4 @@
-//! Too few slots: a feed that was stopped, what stands of it, and the same bed moved on to more slots.
+//! Too few slots: a feed that was stopped, what stands of it, and the same scan gone on with in more slots.
 //!
 //!     cargo run --example slots
 
@@ -29,15 +29,15 @@ pub fn slots(text: &mut String) -> Result<(), Box<dyn Error>> {
     };
     writeln!(text, "standing: {:?}", bed.words())?;
 
-    // An unfinished scan is not moved as a list: a bed made of a list has every pixel scanned. It is fed again, to
-    // slots enough.
-    let mut more = Bed::fresh(Kind::Morton, 2, vec![0; 16])?;
-    more.feed(&SEEN[..taken])?;
-    writeln!(text, "as far as before it is the same bed: {}", more == bed)?;
+    // An unfinished scan moves with all its numbers, to slots enough: its list alone does not tell how far it is.
+    let (mut enough, tiles) = (bed.words().to_vec(), bed.words().len());
+    enough.resize(16, 0);
+    let mut more = Bed::from_scan(bed.kind(), bed.order(), bed.scanned(), tiles, enough)?;
+    writeln!(text, "moved to {} slots, the same bed: {}", more.slots().len(), more == bed)?;
     more.feed(&SEEN[taken..])?;
     writeln!(text, "wholly scanned: {}, {} tiles", more.is_scanned(), more.tiles().len())?;
 
-    // A finished bed is: its words, to as many slots as it has tiles.
+    // Of a finished one the list is enough: its words, to as many slots as it has tiles.
     let kept = Bed::from_slots(more.order(), more.words().len(), more.words().to_vec())?;
     writeln!(text, "kept in {} slots, the same bed: {}", kept.slots().len(), kept == more)?;
     Ok(())

@@ -13,7 +13,7 @@ use core::fmt;
 pub struct Account(pub u8);
 
 impl Account {
-    /// Account 0: the pixel is free.
+    /// Account 0: the pixel is nobody's.
     ///
     /// ```
     /// assert_eq!(kingletbed::Account::NOBODY.0, 0);

@@ -50,7 +50,8 @@ impl<S: AsRef<[u32]>> Bed<S> {
         pixels_of(self.order)
     }
 
-    /// How many pixels are scanned. One that is not counts as nobody's.
+    /// How many pixels are scanned: the first so many in the order of the bed's [`kind`](Bed::kind). No tile has one of
+    /// the others. Of a bed that was read it is all of them.
     ///
     /// ```
     /// use kingletbed::{Bed, Kind};
@@ -108,7 +109,8 @@ impl<S: AsRef<[u32]>> Bed<S> {
         self.slots().get(..self.tiles).unwrap_or_default()
     }
 
-    /// The tiles, by rising corner: every pixel that is somebody's is in one of them.
+    /// The tiles, by rising corner: every pixel that is somebody's is in one of them. The others are nobody's, or not
+    /// scanned yet.
     ///
     /// ```
     /// use kingletbed::{Account, Bed};
@@ -121,12 +123,13 @@ impl<S: AsRef<[u32]>> Bed<S> {
         Tiles::of_words(self.words())
     }
 
-    /// Whose a pixel is, and the largest block with the pixel in it that is all of this account: see [`Found`]. Every
-    /// pixel of that block gives this answer, and no other pixel does; [`rights`](Bed::rights) answers alike on all of
-    /// it. So a head that stays inside need not ask again while the bed stays as it is.
+    /// Whose a pixel is, and the largest block with the pixel in it that is all of this account and wholly scanned: see
+    /// [`Found`]. Every pixel of that block gives this answer, and no other pixel does; [`rights`](Bed::rights) answers
+    /// alike on all of it. So a head that stays inside need not ask again while the bed stays as it is. A pixel that is
+    /// not scanned yet is refused.
     ///
     /// ```
-    /// use kingletbed::{Account, Bed, Block, Found, Pixel, Refusal};
+    /// use kingletbed::{Account, Bed, Block, Found, Kind, Pixel, Refusal};
     /// let bed = Bed::from_slots(2, 3, [69, 8201, 12361])?; // the block NE is free
     /// let found = bed.lookup(Pixel { column: 2, row: 0 })?;
     /// assert_eq!(found, Found { account: Account::NOBODY, block: Block { corner: 4, size: 1 } });
@@ -134,17 +137,23 @@ impl<S: AsRef<[u32]>> Bed<S> {
     /// assert_eq!(bed.lookup(Pixel { column: 3, row: 1 })?, found);
     /// assert_eq!(bed.lookup(Pixel { column: 0, row: 2 })?.account, Account(9));
     /// assert_eq!(bed.lookup(Pixel { column: 4, row: 0 }), Err(Refusal::PointOutside));
+    ///
+    /// let scan = Bed::from_scan(Kind::Rows, 2, 7, 1, [69])?; // three pixels of the block NE are scanned
+    /// let free = Found { account: Account::NOBODY, block: Block { corner: 4, size: 0 } };
+    /// assert_eq!(scan.lookup(Pixel { column: 2, row: 0 }), Ok(free));
+    /// assert_eq!(scan.lookup(Pixel { column: 3, row: 1 }), Err(Refusal::Unscanned));
     /// # Ok::<(), kingletbed::Refusal>(())
     /// ```
     pub fn lookup(&self, at: Pixel) -> Result<Found, Refusal> {
-        let answer = raw::lookup(self.order, self.tiles, self.slots(), at.column, at.row);
+        let (kind, slots) = (self.kind.number(), self.slots());
+        let answer = raw::lookup(kind, self.order, self.pixels, self.tiles, slots, at.column, at.row);
         Refusal::outcome(answer.number)?;
         let block = Block { corner: answer.corner, size: answer.size };
         Ok(Found { account: Account(answer.account), block })
     }
 
     /// Whether an account may place at a pixel: on its own always, on nobody's unless it is a guest, on another's only
-    /// as staff and not on another staff member's.
+    /// as staff and not on another staff member's. Where the pixel is not scanned yet nobody may: that is refused.
     ///
     /// ```
     /// use kingletbed::{Account, Bed, Pixel};
@@ -156,7 +165,8 @@ impl<S: AsRef<[u32]>> Bed<S> {
     /// # Ok::<(), kingletbed::Refusal>(())
     /// ```
     pub fn rights(&self, at: Pixel, asking: Account) -> Result<bool, Refusal> {
-        let answer = raw::rights(self.order, self.tiles, self.slots(), at.column, at.row, asking.0);
+        let (kind, slots) = (self.kind.number(), self.slots());
+        let answer = raw::rights(kind, self.order, self.pixels, self.tiles, slots, at.column, at.row, asking.0);
         Refusal::outcome(answer.number)?;
         Ok(answer.yes != 0)
     }
@@ -177,7 +187,8 @@ impl<S: AsRef<[u32]>> Bed<S> {
     /// # Ok::<(), kingletbed::Refusal>(())
     /// ```
     pub fn preview(&self, block: Block, account: Account) -> Result<usize, Refusal> {
-        let answer = raw::preview(self.order, self.tiles, self.slots(), block.corner, block.size, account.0);
+        let (kind, slots, Block { corner, size }) = (self.kind.number(), self.slots(), block);
+        let answer = raw::preview(kind, self.order, self.pixels, self.tiles, slots, corner, size, account.0);
         Refusal::outcome(answer.number)?;
         Ok(answer.tiles)
     }
@@ -203,34 +214,65 @@ impl<S: AsRef<[u32]>> Bed<S> {
         Ok(slots.get(answer.position..).and_then(|rest| rest.get(..answer.length)).unwrap_or_default())
     }
 
-    /// The account that has all of a block, nobody's too; nothing if it has not one account. It takes one lookup.
+    /// The account that has all of a block, nobody's too; nothing if it has not one account. A block with a pixel that
+    /// is not scanned yet is refused. It takes one lookup.
     ///
     /// ```
-    /// use kingletbed::{Account, Bed, Block, Refusal};
+    /// use kingletbed::{Account, Bed, Block, Kind, Refusal};
     /// let bed = Bed::from_slots(2, 4, [69, 7177, 8201, 12361])?;
     /// assert_eq!(bed.account_of(Block { corner: 13, size: 0 }), Ok(Some(Account(9)))); // under the tile SE
     /// assert_eq!(bed.account_of(Block { corner: 9, size: 0 }), Ok(Some(Account::NOBODY)));
     /// assert_eq!(bed.account_of(Block { corner: 4, size: 1 }), Ok(None));
     /// assert_eq!(bed.account_of(Block { corner: 5, size: 1 }), Err(Refusal::BlockInvalid));
+    ///
+    /// let scan = Bed::from_scan(Kind::Rows, 2, 7, 1, [69])?; // three pixels of the block NE are scanned
+    /// assert_eq!(scan.account_of(Block { corner: 0, size: 1 }), Ok(Some(Account(5))));
+    /// assert_eq!(scan.account_of(Block { corner: 4, size: 1 }), Err(Refusal::Unscanned));
     /// # Ok::<(), kingletbed::Refusal>(())
     /// ```
     pub fn account_of(&self, block: Block) -> Result<Option<Account>, Refusal> {
-        let at = Pixel::of_morton(self.order, block.corner)?;
+        let found = self.lookup(self.last_of(block)?)?;
+        Ok((found.block.size >= block.size).then_some(found.account))
+    }
+
+    /// Whether every pixel of a block is scanned. It takes one lookup.
+    ///
+    /// ```
+    /// use kingletbed::{Bed, Block, Kind};
+    /// let scan = Bed::from_scan(Kind::Rows, 2, 7, 1, [69])?; // three pixels of the block NE are scanned
+    /// assert_eq!(scan.is_block_scanned(Block { corner: 0, size: 1 }), Ok(true));
+    /// assert_eq!(scan.is_block_scanned(Block { corner: 6, size: 0 }), Ok(true));
+    /// assert_eq!(scan.is_block_scanned(Block { corner: 4, size: 1 }), Ok(false));
+    /// # Ok::<(), kingletbed::Refusal>(())
+    /// ```
+    pub fn is_block_scanned(&self, block: Block) -> Result<bool, Refusal> {
+        match self.lookup(self.last_of(block)?) {
+            Ok(_) => Ok(true),
+            Err(Refusal::Unscanned) => Ok(false),
+            Err(refusal) => Err(refusal),
+        }
+    }
+
+    /// The pixel of a block that either kind of scan comes to last, the south-eastern one. Numbers that wrap are those
+    /// of no block, which is refused.
+    fn last_of(&self, block: Block) -> Result<Pixel, Refusal> {
+        let last = block.corner.wrapping_add(pixels_of(block.size)).wrapping_sub(1);
+        let at = Pixel::of_morton(self.order, last)?;
         if Block::around(self.order, at, block.size)? != block {
             return Err(Refusal::BlockInvalid);
         }
-        let found = self.lookup(at)?;
-        Ok((found.block.size >= block.size).then_some(found.account))
+        Ok(at)
     }
 
     /// What a block shows, by rising corner: the tiles inside it, or where one tile covers it that tile, cut to the
     /// block. Every pixel of the block that is somebody's is in one of them, and they are what a bed of the block alone
-    /// would have for tiles.
+    /// would have for tiles. What is in none of them is nobody's, or not scanned yet: see
+    /// [`is_block_scanned`](Bed::is_block_scanned).
     ///
     /// ```
     /// use kingletbed::{Account, Bed, Block};
     /// let bed = Bed::from_slots(2, 4, [69, 7177, 8201, 12361])?;
-    /// // Of the block NE its one tile, of a pixel under the tile SE that pixel, of a free pixel nothing.
+    /// // Of the block NE its one tile, of a pixel under the tile SE that pixel, of nobody's pixel nothing.
     /// for (corner, size, tiles) in [(4, 1, &[(7, 0)][..]), (13, 0, &[(13, 0)]), (9, 0, &[])] {
     ///     let shown = bed.shown(Block { corner, size })?.inspect(|tile| assert_eq!(tile.account(), Account(9)));
     ///     assert_eq!(shown.map(|tile| (tile.corner(), tile.size())).collect::<Vec<_>>(), tiles);
@@ -238,15 +280,20 @@ impl<S: AsRef<[u32]>> Bed<S> {
     /// # Ok::<(), kingletbed::Refusal>(())
     /// ```
     pub fn shown(&self, block: Block) -> Result<Shown<'_>, Refusal> {
-        let over = match self.account_of(block)? {
-            None => return Ok(Shown::new(Tiles::of_words(self.part(block)?), None)),
-            Some(Account::NOBODY) => None,
-            Some(account) => Some(Tile::over(self.order, block, account)?),
+        let over = match self.account_of(block) {
+            // No tile covers a block that has a pixel which is not scanned.
+            Ok(None) | Err(Refusal::Unscanned) => {
+                return Ok(Shown::new(Tiles::of_words(self.part(block)?), None));
+            }
+            Ok(Some(Account::NOBODY)) => None,
+            Ok(Some(account)) => Some(Tile::over(self.order, block, account)?),
+            Err(refusal) => return Err(refusal),
         };
         Ok(Shown::new(Tiles::of_words(&[]), over))
     }
 
-    /// Writes the account of each pixel, row after row. The raster has [`pixels`](Bed::pixels) bytes.
+    /// Writes the account of each pixel, row after row. The raster has [`pixels`](Bed::pixels) bytes. It does not tell
+    /// nobody's pixel from one that is not scanned yet: both are 0.
     ///
     /// ```
     /// use kingletbed::Bed;
@@ -273,21 +320,22 @@ impl<S: AsRef<[u32]>> Bed<S> {
     }
 
     /// Writes the bed as a file and gives its length; [`file_room`](Bed::file_room) bytes are enough. Bytes behind the
-    /// file are not touched.
+    /// file are not touched. A file is of a bed that is wholly scanned: an unfinished scan is refused.
     ///
     /// ```
-    /// use kingletbed::{Bed, Refusal};
+    /// use kingletbed::{Bed, Kind, Refusal};
     /// let bed = Bed::from_slots(2, 4, [69, 7177, 8201, 12361])?;
     /// let mut file = vec![0; bed.file_room()];
     /// let length = bed.write(&mut file)?;
     /// assert_eq!(length, 32);
     /// assert_eq!(Bed::read(&file[..length], [0; 16])?, bed);
     /// assert_eq!(bed.write(&mut file[..31]), Err(Refusal::BytesTooFew));
+    /// assert_eq!(Bed::fresh(Kind::Rows, 2, [0; 16])?.write(&mut file), Err(Refusal::Unscanned));
     /// # Ok::<(), kingletbed::Refusal>(())
     /// ```
     #[must_use = "the file is as many bytes as the answer says"]
     pub fn write(&self, file: &mut [u8]) -> Result<usize, Refusal> {
-        let answer = raw::write(self.order, self.tiles, self.slots(), file);
+        let answer = raw::write(self.kind.number(), self.order, self.pixels, self.tiles, self.slots(), file);
         Refusal::outcome(answer.number)?;
         Ok(answer.length)
     }

@@ -14,8 +14,30 @@ use core::fmt;
 /// Where the making of a bed is refused, slots handed over by value are gone; lent by `&mut` they are as they were.
 ///
 /// A bed is made by [`fresh`](Bed::fresh) and filled by [`feed`](Bed::feed), [`read`](Bed::read) from a file, made of
-/// two others by [`combine`](Bed::combine), or made [`from_slots`](Bed::from_slots) that have its list already. The
-/// examples use this bed of order 2, with these tiles:
+/// two others by [`combine`](Bed::combine), or made of slots that have its list already, by
+/// [`from_slots`](Bed::from_slots) if it is wholly scanned and else by [`from_scan`](Bed::from_scan). A scan that has
+/// come to its end and a map read from a file are the same thing, a bed that [`is_scanned`](Bed::is_scanned).
+///
+/// Ground that the scan has not reached is not free. A pixel that is not scanned yet, and a block that has one, are
+/// refused as [`Refusal::Unscanned`] by [`lookup`](Bed::lookup), [`rights`](Bed::rights), [`claim`](Bed::claim),
+/// [`release`](Bed::release) and [`preview`](Bed::preview), and a bed that has one by [`write`](Bed::write):
+///
+/// ```
+/// use kingletbed::{Account, Bed, Block, Kind, Pixel, Refusal};
+/// let mut bed = Bed::fresh(Kind::Rows, 1, [0; 4])?;
+/// bed.feed(&[0, 0, 0])?;
+/// assert_eq!(bed.lookup(Pixel { column: 0, row: 1 })?.account, Account::NOBODY);
+/// assert_eq!(bed.lookup(Pixel { column: 1, row: 1 }), Err(Refusal::Unscanned));
+/// assert_eq!(bed.claim(Block::whole(1), Account(9)), Err(Refusal::Unscanned));
+/// assert_eq!(bed.write(&mut [0; 40]), Err(Refusal::Unscanned));
+/// bed.feed(&[9])?;
+/// assert_eq!(bed.lookup(Pixel { column: 1, row: 1 })?.account, Account(9));
+/// bed.claim(Block::whole(1), Account(9))?;
+/// assert_eq!(bed.write(&mut [0; 40]), Ok(15));
+/// # Ok::<(), kingletbed::Refusal>(())
+/// ```
+///
+/// The other examples use this bed of order 2, with these tiles:
 ///
 /// ```text
 /// 5 5 0 0        corner  0  size 1  account 5    word    69
@@ -45,7 +67,7 @@ use core::fmt;
 /// ```
 ///
 /// Two beds are equal that have one order and the same tiles, so that show the same accounts; neither the slots behind
-/// the list count, nor how a bed was scanned.
+/// the list count, nor how a bed was scanned and how far: what is not scanned compares as nobody's.
 ///
 /// ```
 /// use kingletbed::{Bed, Kind};
@@ -63,14 +85,14 @@ use core::fmt;
 pub struct Bed<S> {
     pub(crate) kind: Kind,
     pub(crate) order: u32,
-    /// The pixels scanned.
+    /// The pixels scanned, at most 4^order; every tile lies on them.
     pub(crate) pixels: u32,
     /// The tile count. That of a list which the library made or checked, so at most 4^order.
     pub(crate) tiles: usize,
     pub(crate) slots: S,
 }
 
-/// 4^order, of an order that a call accepted.
+/// 4^order, of an order or a size; 0 of one that is above 10.
 pub(crate) fn pixels_of(order: u32) -> u32 {
     raw::extent(order).pixels
 }
@@ -112,12 +134,13 @@ impl<S: AsRef<[u32]> + AsMut<[u32]>> Bed<S> {
     }
 
     /// Makes a third bed of two of one order: the first's pixels where the second is somebody's, or where it is
-    /// nobody's. A pixel that is not scanned counts as nobody's in both. The slots then hold the third bed's list, and
-    /// 0 behind it. Like a bed read from a file it is by rows, with every pixel scanned. Orders that differ are
-    /// refused, and too few slots.
+    /// nobody's; one that the second has not scanned counts as nobody's there. The slots then hold the third bed's
+    /// list, and 0 behind it. Its scan is the first's, of that kind and as far: all that it holds is held there, and
+    /// what the first has not scanned is not scanned on the third either. Orders that differ are refused, and too few
+    /// slots.
     ///
     /// ```
-    /// use kingletbed::{Bed, Choice, Refusal};
+    /// use kingletbed::{Bed, Choice, Kind, Refusal};
     /// let bed = Bed::from_slots(2, 4, [69, 7177, 8201, 12361])?;
     /// let zones = Bed::from_slots(2, 2, [67, 12355])?; // the blocks NW and SE
     /// let inside = Bed::combine(Choice::Inside, &bed, &zones, [0; 16])?;
@@ -125,6 +148,12 @@ impl<S: AsRef<[u32]> + AsMut<[u32]>> Bed<S> {
     /// assert!(inside.is_scanned());
     /// let outside = Bed::combine(Choice::Outside, &bed, &zones, [0; 16])?;
     /// assert_eq!(outside.words(), [7177, 8201]);
+    ///
+    /// let scan = Bed::from_scan(Kind::Rows, 2, 7, 1, [69])?; // seven pixels, and on them the tile NW
+    /// let mut outside = Bed::combine(Choice::Outside, &scan, &zones, [0; 16])?;
+    /// assert_eq!((outside.scanned(), outside.words().len()), (7, 0));
+    /// outside.feed(&[9])?;
+    /// assert_eq!(outside.words(), [7177]);
     ///
     /// let larger = Bed::from_slots(3, 2, [67, 12355])?;
     /// assert_eq!(Bed::combine(Choice::Inside, &bed, &larger, [0; 16]), Err(Refusal::OrdersDiffer));
@@ -136,11 +165,12 @@ impl<S: AsRef<[u32]> + AsMut<[u32]>> Bed<S> {
         second: &Bed<B>,
         mut slots: S,
     ) -> Result<Bed<S>, Refusal> {
-        let (order, words1, words2) = (first.order, first.slots(), second.slots());
+        let Bed { kind, order, pixels, tiles, .. } = *first;
+        let (words1, words2) = (first.slots(), second.slots());
         let (choice, out) = (choice.number(), slots.as_mut());
-        let answer = raw::combine(choice, order, first.tiles, words1, second.order, second.tiles, words2, out);
+        let answer = raw::combine(choice, order, tiles, words1, second.order, second.tiles, words2, out);
         Refusal::outcome(answer.number)?;
-        Ok(Bed { kind: Kind::Rows, order, pixels: pixels_of(order), tiles: answer.tiles, slots })
+        Ok(Bed { kind, order, pixels, tiles: answer.tiles, slots })
     }
 
     /// Hands over the accounts of the next pixels, any number of them. The slots then hold the list of all pixels so
@@ -164,8 +194,9 @@ impl<S: AsRef<[u32]> + AsMut<[u32]>> Bed<S> {
     }
 
     /// Gives every pixel of a block to an account; [`Account::NOBODY`] releases them. The slots then hold the new list,
-    /// and 0 behind it. While a claim has a tile on a pixel that is not scanned yet, feeds are refused.
-    /// [`preview`](Bed::preview) tells beforehand how many tiles a claim leaves.
+    /// and 0 behind it. A block with a pixel that is not scanned yet is refused; a claim among the pixels scanned does
+    /// not stop the scan, which goes on where it was. [`preview`](Bed::preview) tells beforehand how many tiles a claim
+    /// leaves.
     ///
     /// ```
     /// use kingletbed::{Account, Bed, Block, Pixel};
@@ -176,7 +207,9 @@ impl<S: AsRef<[u32]> + AsMut<[u32]>> Bed<S> {
     /// # Ok::<(), kingletbed::Refusal>(())
     /// ```
     pub fn claim(&mut self, block: Block, account: Account) -> Result<(), Refusal> {
-        let answer = raw::claim(self.order, self.tiles, self.slots.as_mut(), block.corner, block.size, account.0);
+        let (kind, slots) = (self.kind.number(), self.slots.as_mut());
+        let (order, pixels, tiles) = (self.order, self.pixels, self.tiles);
+        let answer = raw::claim(kind, order, pixels, tiles, slots, block.corner, block.size, account.0);
         Refusal::outcome(answer.number)?;
         self.tiles = answer.tiles;
         Ok(())
@@ -199,7 +232,10 @@ impl<S: AsRef<[u32]> + AsMut<[u32]>> Bed<S> {
 
 impl<S: AsRef<[u32]>> Bed<S> {
     /// The bed whose list is the first `tiles` words of the slots, if they are a list. It is by rows, with every pixel
-    /// scanned. The count must be that of the list: fewer of its words are a list too, of a bed with less on it.
+    /// scanned, so that this is for the list of a bed that is wholly scanned. A list alone does not tell how far its
+    /// scan is: of one that may be unfinished make the bed by [`from_scan`](Bed::from_scan), or ground that the camera
+    /// has not reached reads as free. The count must be that of the list: fewer of its words are a list too, of a bed
+    /// with less on it.
     ///
     /// ```
     /// use kingletbed::{Bed, Refusal};
@@ -212,6 +248,30 @@ impl<S: AsRef<[u32]>> Bed<S> {
     pub fn from_slots(order: u32, tiles: usize, slots: S) -> Result<Bed<S>, Refusal> {
         Refusal::outcome(raw::check(order, tiles, slots.as_ref()))?;
         Ok(Bed { kind: Kind::Rows, order, pixels: pixels_of(order), tiles, slots })
+    }
+
+    /// The bed of a scan, finished or not, made again of its kind, its order, the number of pixels scanned, and the
+    /// slots whose first `tiles` words are its list. What opens no feed is refused: an order or a list as by
+    /// [`from_slots`](Bed::from_slots), more pixels than the bed has, and a tile on a pixel that is not scanned.
+    ///
+    /// ```
+    /// use kingletbed::{Bed, Kind, Pixel, Refusal};
+    /// let slots = [69, 0, 0, 0]; // the tile NW: by rows its last pixel is the sixth
+    /// assert_eq!(Bed::from_scan(Kind::Rows, 2, 5, 1, slots), Err(Refusal::TileUnscanned));
+    /// assert_eq!(Bed::from_scan(Kind::Rows, 2, 17, 1, slots), Err(Refusal::ScannedTooLarge));
+    /// let mut bed = Bed::from_scan(Kind::Rows, 2, 7, 1, slots)?;
+    /// assert_eq!(bed.lookup(Pixel { column: 3, row: 1 }), Err(Refusal::Unscanned));
+    /// bed.feed(&[9])?;
+    /// assert_eq!((bed.scanned(), bed.words()), (8, &[69, 7177][..]));
+    /// # Ok::<(), kingletbed::Refusal>(())
+    /// ```
+    pub fn from_scan(kind: Kind, order: u32, pixels: u32, tiles: usize, slots: S) -> Result<Bed<S>, Refusal> {
+        // A lookup off every bed: the checks of a scan, and where they pass the refusal of the point.
+        let answer = raw::lookup(kind.number(), order, pixels, tiles, slots.as_ref(), u32::MAX, u32::MAX);
+        if answer.number != Refusal::PointOutside.number() {
+            Refusal::outcome(answer.number)?;
+        }
+        Ok(Bed { kind, order, pixels, tiles, slots })
     }
 
     /// The same bed with its slots by borrow, only to be asked: for code that takes beds whatever they are kept in.
@@ -231,14 +291,19 @@ impl<S: AsRef<[u32]>> Bed<S> {
 }
 
 impl<S> Bed<S> {
-    /// The slots, given back. The bed's order and tile count are what [`from_slots`](Bed::from_slots) takes to make it
-    /// again.
+    /// The slots, given back. With them the bed's kind, order, pixels scanned and tile count make it again by
+    /// [`from_scan`](Bed::from_scan), and its scan goes on.
     ///
     /// ```
     /// use kingletbed::{Bed, Kind};
     /// let mut bed = Bed::fresh(Kind::Rows, 1, vec![0; 3])?;
-    /// bed.feed(&[7, 7, 7, 7])?;
-    /// assert_eq!(bed.into_slots(), [71, 0, 0]);
+    /// bed.feed(&[7, 7])?;
+    /// let (kind, order, scanned, tiles) = (bed.kind(), bed.order(), bed.scanned(), bed.tiles().len());
+    /// let slots = bed.into_slots();
+    /// assert_eq!(slots, [7, 1031, 0]);
+    /// let mut again = Bed::from_scan(kind, order, scanned, tiles, slots)?;
+    /// again.feed(&[7, 7])?;
+    /// assert_eq!(again.into_slots(), [71, 0, 0]);
     /// # Ok::<(), kingletbed::Refusal>(())
     /// ```
     #[must_use]

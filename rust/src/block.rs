@@ -144,7 +144,7 @@ impl Block {
 pub struct Found {
     /// Whose the pixel is.
     pub account: Account,
-    /// The largest block with the pixel in it that is all of this account: the pixel's tile, or for nobody's pixel the
-    /// largest block that is wholly nobody's.
+    /// The largest block with the pixel in it that is all of this account and wholly scanned: the pixel's tile, or for
+    /// nobody's pixel the largest block that is wholly nobody's and wholly scanned, the free block around it.
     pub block: Block,
 }

@@ -1,6 +1,7 @@
 //! Which pixels a third bed has of the first.
 
-/// Which of the first bed's pixels [`Bed::combine`](crate::Bed::combine) keeps; the others are nobody's on the third.
+/// Which of the first bed's pixels [`Bed::combine`](crate::Bed::combine) keeps; the others that it has scanned are
+/// nobody's on the third.
 ///
 /// ```
 /// use kingletbed::{Account, Bed, Choice, Pixel};
@@ -17,7 +18,8 @@
 pub enum Choice {
     /// Those where the second bed is somebody's: the intersection of the first bed with the second's held ground.
     Inside,
-    /// Those where the second bed is nobody's: their difference, the first bed without the second's held ground.
+    /// Those where the second bed is nobody's or not scanned yet: their difference, the first bed without the second's
+    /// held ground.
     Outside,
 }
 

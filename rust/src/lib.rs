@@ -5,7 +5,7 @@
 //! blocks of one account, by rising Morton number. It is filled from account bytes, by rows or in Morton order, read
 //! from a file, made of slots that have a list already, or combined of two beds: the first's pixels inside the second's
 //! held ground, or outside it. A lookup tells whose a pixel is, and the largest block around it that is all of that
-//! account.
+//! account. Ground that the scan has not reached yet is not free: what is asked or claimed there is refused.
 //!
 //! ```
 //! use kingletbed::{Account, Bed, Block, Kind, Pixel};

@@ -2,18 +2,26 @@
 //! takes, refuses and leaves. They are for those who keep the numbers themselves; everyone else wants
 //! [`Bed`](crate::Bed).
 //!
+//! `kind, order, pixels, tiles` are the record of a scan. A fresh scan and a feed answer it; of a map that was read it
+//! is kind 0, the order and tile count answered, and 4^order pixels. A claim changes its tile count alone.
+//!
 //! No call asks anything of its caller: the library answers every input, and the slices see to the memory. What nothing
-//! here protects from is a tile count that belongs to other slots, or to the same slots at another time: earlier, or
-//! after a claim that was only previewed. After a claim or a feed the count of before may still be that of a map, but
-//! of another bed, on which somebody's pixel reads as nobody's:
+//! here protects from is a record that belongs to other slots, or to the same slots at another time: earlier, or after
+//! a claim that was only previewed. After a claim or a feed the tile count of before may still be that of a map, but of
+//! another bed, on which somebody's pixel reads as nobody's. With more pixels than are scanned, one that the scan has
+//! not reached does:
 //!
 //! ```
 //! use kingletbed::raw;
 //! let mut slots = [0; 4];
-//! let claimed = raw::claim(1, 0, &mut slots, 3, 0, 9);
+//! let fed = raw::feed(0, 1, 0, 0, &mut slots, &[0, 0, 0]);
+//! assert_eq!((fed.number, fed.pixels, fed.tiles), (0, 3, 0));
+//! let claimed = raw::claim(0, 1, 3, 0, &mut slots, 1, 0, 9);
 //! assert_eq!((claimed.number, claimed.tiles), (0, 1));
-//! assert_eq!(raw::lookup(1, claimed.tiles, &slots, 1, 1).account, 9);
-//! assert_eq!(raw::lookup(1, 0, &slots, 1, 1).account, 0); // the count of before: account 9's pixel reads as nobody's
+//! assert_eq!(raw::lookup(0, 1, 3, claimed.tiles, &slots, 1, 0).account, 9);
+//! assert_eq!(raw::lookup(0, 1, 3, 0, &slots, 1, 0).account, 0); // the count of before: account 9's reads as nobody's
+//! assert_eq!(raw::lookup(0, 1, 3, 1, &slots, 1, 1).number, 52); // not scanned yet
+//! assert_eq!(raw::lookup(0, 1, 4, 1, &slots, 1, 1).number, 0); // a pixel too many: it reads as nobody's
 //! ```
 //!
 //! All unsafe code of this package is here.
@@ -30,18 +38,19 @@ extern "C" {
                accounts: *const u8, accounts_length: usize) -> Fed;
     fn kb_decode(order: u32, tiles: usize, slots: *const u32, slots_length: usize,
                  raster: *mut u8, raster_length: usize) -> u32;
-    fn kb_lookup(order: u32, tiles: usize, slots: *const u32, slots_length: usize, column: u32, row: u32) -> Found;
+    fn kb_lookup(kind: u32, order: u32, pixels: u32, tiles: usize, slots: *const u32, slots_length: usize,
+                 column: u32, row: u32) -> Found;
     fn kb_part(order: u32, tiles: usize, slots: *const u32, slots_length: usize, corner: u32, size: u32) -> Part;
-    fn kb_rights(order: u32, tiles: usize, slots: *const u32, slots_length: usize,
+    fn kb_rights(kind: u32, order: u32, pixels: u32, tiles: usize, slots: *const u32, slots_length: usize,
                  column: u32, row: u32, account: u8) -> Right;
-    fn kb_claim(order: u32, tiles: usize, slots: *mut u32, slots_length: usize,
+    fn kb_claim(kind: u32, order: u32, pixels: u32, tiles: usize, slots: *mut u32, slots_length: usize,
                 corner: u32, size: u32, account: u8) -> Claimed;
-    fn kb_preview(order: u32, tiles: usize, slots: *const u32, slots_length: usize,
+    fn kb_preview(kind: u32, order: u32, pixels: u32, tiles: usize, slots: *const u32, slots_length: usize,
                   corner: u32, size: u32, account: u8) -> Claimed;
     fn kb_combine(choice: u32, order1: u32, tiles1: usize, slots1: *const u32, slots1_length: usize,
                   order2: u32, tiles2: usize, slots2: *const u32, slots2_length: usize,
                   out: *mut u32, out_length: usize) -> Combined;
-    fn kb_write(order: u32, tiles: usize, slots: *const u32, slots_length: usize,
+    fn kb_write(kind: u32, order: u32, pixels: u32, tiles: usize, slots: *const u32, slots_length: usize,
                 file: *mut u8, file_length: usize) -> Written;
     fn kb_read(file: *const u8, file_length: usize, slots: *mut u32, slots_length: usize) -> Reading;
     fn kb_extent(order: u32) -> Extent;
@@ -95,7 +104,7 @@ pub fn feed(kind: u32, order: u32, pixels: u32, tiles: usize, slots: &mut [u32],
     unsafe { kb_feed(kind, order, pixels, tiles, slots.as_mut_ptr(), slots.len(), accounts.as_ptr(), accounts.len()) }
 }
 
-/// `kb_decode`. Writes the account of each pixel.
+/// `kb_decode`. Writes the account of each pixel; one that is not scanned has 0.
 ///
 /// ```
 /// use kingletbed::raw;
@@ -111,14 +120,17 @@ pub fn decode(order: u32, tiles: usize, slots: &[u32], raster: &mut [u8]) -> u32
 ///
 /// ```
 /// use kingletbed::raw;
-/// let held = raw::lookup(2, 1, &[71], 1, 0);
+/// let held = raw::lookup(0, 2, 16, 1, &[71], 1, 0);
 /// assert_eq!((held.account, held.corner, held.size), (7, 0, 1));
-/// let free = raw::lookup(2, 1, &[71], 3, 0);
+/// let free = raw::lookup(0, 2, 16, 1, &[71], 3, 0);
 /// assert_eq!((free.account, free.corner, free.size), (0, 4, 1));
+/// let free = raw::lookup(0, 2, 7, 1, &[71], 3, 0); // of the block NE three pixels are scanned
+/// assert_eq!((free.account, free.corner, free.size), (0, 5, 0));
+/// assert_eq!(raw::lookup(0, 2, 7, 1, &[71], 3, 1).number, 52);
 /// ```
 #[must_use]
-pub fn lookup(order: u32, tiles: usize, slots: &[u32], column: u32, row: u32) -> Found {
-    unsafe { kb_lookup(order, tiles, slots.as_ptr(), slots.len(), column, row) }
+pub fn lookup(kind: u32, order: u32, pixels: u32, tiles: usize, slots: &[u32], column: u32, row: u32) -> Found {
+    unsafe { kb_lookup(kind, order, pixels, tiles, slots.as_ptr(), slots.len(), column, row) }
 }
 
 /// `kb_part`. The position and length of the tiles inside a block.
@@ -137,11 +149,21 @@ pub fn part(order: u32, tiles: usize, slots: &[u32], corner: u32, size: u32) -> 
 ///
 /// ```
 /// use kingletbed::raw;
-/// assert_eq!(raw::rights(1, 1, &[71], 1, 0, 8).yes, 0);
+/// assert_eq!(raw::rights(0, 1, 4, 1, &[71], 1, 0, 8).yes, 0);
 /// ```
 #[must_use]
-pub fn rights(order: u32, tiles: usize, slots: &[u32], column: u32, row: u32, account: u8) -> Right {
-    unsafe { kb_rights(order, tiles, slots.as_ptr(), slots.len(), column, row, account) }
+#[allow(clippy::too_many_arguments)]
+pub fn rights(
+    kind: u32,
+    order: u32,
+    pixels: u32,
+    tiles: usize,
+    slots: &[u32],
+    column: u32,
+    row: u32,
+    account: u8,
+) -> Right {
+    unsafe { kb_rights(kind, order, pixels, tiles, slots.as_ptr(), slots.len(), column, row, account) }
 }
 
 /// `kb_claim`. Gives a block to an account.
@@ -149,12 +171,22 @@ pub fn rights(order: u32, tiles: usize, slots: &[u32], column: u32, row: u32, ac
 /// ```
 /// use kingletbed::raw;
 /// let mut slots = [71, 0, 0];
-/// let claimed = raw::claim(1, 1, &mut slots, 3, 0, 0);
+/// let claimed = raw::claim(0, 1, 4, 1, &mut slots, 3, 0, 0);
 /// assert_eq!((claimed.number, claimed.tiles, slots), (0, 3, [7, 1031, 2055]));
 /// ```
 #[must_use]
-pub fn claim(order: u32, tiles: usize, slots: &mut [u32], corner: u32, size: u32, account: u8) -> Claimed {
-    unsafe { kb_claim(order, tiles, slots.as_mut_ptr(), slots.len(), corner, size, account) }
+#[allow(clippy::too_many_arguments)]
+pub fn claim(
+    kind: u32,
+    order: u32,
+    pixels: u32,
+    tiles: usize,
+    slots: &mut [u32],
+    corner: u32,
+    size: u32,
+    account: u8,
+) -> Claimed {
+    unsafe { kb_claim(kind, order, pixels, tiles, slots.as_mut_ptr(), slots.len(), corner, size, account) }
 }
 
 /// `kb_preview`. What [`claim`] would answer, done on a copy of the list with as many slots.
@@ -162,14 +194,24 @@ pub fn claim(order: u32, tiles: usize, slots: &mut [u32], corner: u32, size: u32
 /// ```
 /// use kingletbed::raw;
 /// let mut slots = [71, 0, 0];
-/// let preview = raw::preview(1, 1, &slots, 3, 0, 0);
+/// let preview = raw::preview(0, 1, 4, 1, &slots, 3, 0, 0);
 /// assert_eq!((preview.number, preview.tiles, slots), (0, 3, [71, 0, 0]));
-/// assert_eq!(raw::claim(1, 1, &mut slots, 3, 0, 0), preview);
-/// assert_eq!(raw::preview(1, 1, &[71, 0], 3, 0, 0).number, 25); // two slots are too few for three tiles
+/// assert_eq!(raw::claim(0, 1, 4, 1, &mut slots, 3, 0, 0), preview);
+/// assert_eq!(raw::preview(0, 1, 4, 1, &[71, 0], 3, 0, 0).number, 25); // two slots are too few for three tiles
 /// ```
 #[must_use]
-pub fn preview(order: u32, tiles: usize, slots: &[u32], corner: u32, size: u32, account: u8) -> Claimed {
-    unsafe { kb_preview(order, tiles, slots.as_ptr(), slots.len(), corner, size, account) }
+#[allow(clippy::too_many_arguments)]
+pub fn preview(
+    kind: u32,
+    order: u32,
+    pixels: u32,
+    tiles: usize,
+    slots: &[u32],
+    corner: u32,
+    size: u32,
+    account: u8,
+) -> Claimed {
+    unsafe { kb_preview(kind, order, pixels, tiles, slots.as_ptr(), slots.len(), corner, size, account) }
 }
 
 /// `kb_combine`. Makes a third map of two: by choice 0 the first map's pixels where the second is somebody's, by any
@@ -201,17 +243,18 @@ pub fn combine(
     }
 }
 
-/// `kb_write`. Writes a map as a file.
+/// `kb_write`. Writes a map that is wholly scanned as a file.
 ///
 /// ```
 /// use kingletbed::raw;
 /// let mut file = [0; 15];
-/// let written = raw::write(0, 1, &[3], &mut file);
+/// let written = raw::write(0, 0, 1, 1, &[3], &mut file);
 /// assert_eq!((written.length, file), (15, [0, 0, 0, 0, 1, 0, 0, 0, 3, 1, 3, 0, 0, 0, 1]));
+/// assert_eq!(raw::write(0, 0, 0, 0, &[3], &mut file).number, 52);
 /// ```
 #[must_use]
-pub fn write(order: u32, tiles: usize, slots: &[u32], file: &mut [u8]) -> Written {
-    unsafe { kb_write(order, tiles, slots.as_ptr(), slots.len(), file.as_mut_ptr(), file.len()) }
+pub fn write(kind: u32, order: u32, pixels: u32, tiles: usize, slots: &[u32], file: &mut [u8]) -> Written {
+    unsafe { kb_write(kind, order, pixels, tiles, slots.as_ptr(), slots.len(), file.as_mut_ptr(), file.len()) }
 }
 
 /// `kb_read`. Reads a file to a map.
@@ -327,19 +370,21 @@ mod tests {
             assert_eq!(kb_feed(1, 1, 2, 0, null_mut(), 0, null_mut(), 0), fed(0, 0, 2));
             assert_eq!(kb_feed(1, 1, 2, 0, null_mut(), 0, [0, 5].as_ptr(), 2), fed(25, 1, 3));
             assert_eq!(kb_decode(0, 0, null_mut(), 0, null_mut(), 0), 33);
-            let found = |corner, size| Found { number: 0, account: 0, corner, size };
-            assert_eq!(kb_lookup(10, 0, null_mut(), 0, 1023, 1023), found(0, 10));
+            let found = |number, size| Found { number, account: 0, corner: 0, size };
+            assert_eq!(kb_lookup(0, 10, 1 << 20, 0, null_mut(), 0, 1023, 1023), found(0, 10));
+            assert_eq!(kb_lookup(0, 10, (1 << 20) - 1, 0, null_mut(), 0, 1023, 1023), found(52, 0));
             assert_eq!(kb_part(10, 0, null_mut(), 0, 4, 1), Part { number: 0, position: 0, length: 0 });
-            assert_eq!(kb_rights(0, 0, null_mut(), 0, 0, 0, 8), Right { number: 0, yes: 1 });
-            assert_eq!(kb_claim(0, 0, null_mut(), 0, 0, 0, 8), Claimed { number: 25, tiles: 0 });
-            assert_eq!(kb_claim(0, 0, null_mut(), 0, 0, 0, 0), Claimed { number: 0, tiles: 0 });
-            assert_eq!(kb_preview(0, 0, null_mut(), 0, 0, 0, 8), Claimed { number: 25, tiles: 0 });
-            assert_eq!(kb_preview(0, 0, null_mut(), 0, 0, 0, 0), Claimed { number: 0, tiles: 0 });
+            assert_eq!(kb_rights(0, 0, 1, 0, null_mut(), 0, 0, 0, 8), Right { number: 0, yes: 1 });
+            let claimed = |number| Claimed { number, tiles: 0 };
+            assert_eq!(kb_claim(0, 0, 1, 0, null_mut(), 0, 0, 0, 8), claimed(25));
+            assert_eq!(kb_claim(0, 0, 1, 0, null_mut(), 0, 0, 0, 0), claimed(0));
+            assert_eq!(kb_preview(0, 0, 1, 0, null_mut(), 0, 0, 0, 8), claimed(25));
+            assert_eq!(kb_preview(0, 0, 1, 0, null_mut(), 0, 0, 0, 0), claimed(0));
             let combined = |number| Combined { number, tiles: 0 };
             assert_eq!(kb_combine(0, 10, 0, null_mut(), 0, 10, 0, null_mut(), 0, null_mut(), 0), combined(0));
             assert_eq!(kb_combine(0, 10, 0, null_mut(), 0, 10, 1, null_mut(), 0, null_mut(), 0), combined(2));
             assert_eq!(kb_combine(1, 0, 1, [7].as_ptr(), 1, 0, 0, null_mut(), 0, null_mut(), 0), combined(25));
-            assert_eq!(kb_write(0, 0, null_mut(), 0, null_mut(), 0), Written { number: 26, length: 0 });
+            assert_eq!(kb_write(0, 0, 1, 0, null_mut(), 0, null_mut(), 0), Written { number: 26, length: 0 });
             assert_eq!(kb_read(null_mut(), 0, null_mut(), 0), Reading { number: 41, order: 0, tiles: 0 });
             assert_eq!(
                 kb_read([4, 0, 0, 0, 0, 0].as_ptr(), 6, null_mut(), 0),

@@ -25,7 +25,7 @@ macro_rules! refusals {
             ///
             /// ```
             /// use kingletbed::Refusal;
-            /// assert_eq!(Refusal::ALL.len(), 22);
+            /// assert_eq!(Refusal::ALL.len(), 23);
             /// ```
             pub const ALL: &'static [Refusal] = &[$(Refusal::$name,)*];
 
@@ -81,6 +81,7 @@ refusals! {
     TrailingBytes = 42, "bytes follow the end of the file's roster";
     RosterWrong = 43, "the file's roster does not match its tiles";
     OrdersDiffer = 51, "the two maps have different orders";
+    Unscanned = 52, "the pixel, the block or the bed is not wholly scanned yet";
 }
 
 /// How many letters the header's spelling of a name has: one more for each capital but the first.
@@ -154,12 +155,12 @@ mod tests {
     #[test]
     fn outcomes() {
         assert_eq!(Refusal::outcome(0), Ok(()));
-        for number in 1..=52 {
+        for number in 1..=53 {
             let refusal = Refusal::outcome(number).expect_err("a refusal");
             assert!(refusal.number() <= number);
             assert_eq!(Refusal::from_number(number).unwrap_or(refusal), refusal);
         }
-        assert_eq!(Refusal::outcome(u32::MAX), Err(Refusal::OrdersDiffer));
+        assert_eq!(Refusal::outcome(u32::MAX), Err(Refusal::Unscanned));
     }
 
     #[test]

@@ -3,17 +3,19 @@
 use crate::Refusal;
 use core::fmt;
 
-/// The order in which a scan goes over the bed.
+/// The order in which a scan goes over the bed. A pixel is scanned once the scan has come to its place in it.
 ///
 /// ```
-/// use kingletbed::{Account, Bed, Kind, Pixel};
+/// use kingletbed::{Account, Bed, Kind, Pixel, Refusal};
 /// let mut rows = Bed::fresh(Kind::Rows, 2, [0; 16])?;
 /// rows.feed(&[0, 0, 9])?;
 /// assert_eq!(rows.lookup(Pixel { column: 2, row: 0 })?.account, Account(9));
+/// assert_eq!(rows.lookup(Pixel { column: 0, row: 1 }), Err(Refusal::Unscanned));
 ///
 /// let mut morton = Bed::fresh(Kind::Morton, 2, [0; 16])?;
 /// morton.feed(&[0, 0, 9])?;
 /// assert_eq!(morton.lookup(Pixel { column: 0, row: 1 })?.account, Account(9));
+/// assert_eq!(morton.lookup(Pixel { column: 2, row: 0 }), Err(Refusal::Unscanned));
 /// # Ok::<(), kingletbed::Refusal>(())
 /// ```
 #[derive(Clone, Copy, Debug, PartialEq, Eq, Hash)]

@@ -1,6 +1,7 @@
 //! Tiles, and the iterators that yield them.
 
-use crate::{raw, Account, Block, Pixel, Refusal};
+use crate::bed::pixels_of;
+use crate::{raw, Account, Block, Kind, Pixel, Refusal};
 use core::fmt;
 use core::iter::FusedIterator;
 use core::slice;
@@ -33,11 +34,11 @@ impl Tile {
         Tile { word }
     }
 
-    /// The tile that has all of a block, with an account from 1 on: what a claim of it leaves on a bed where there is
-    /// nothing else.
+    /// The tile that has all of a block, with an account from 1 on: what a claim of it leaves on a bed that is wholly
+    /// scanned and where there is nothing else.
     pub(crate) fn over(order: u32, block: Block, account: Account) -> Result<Tile, Refusal> {
-        let mut slot = [0];
-        let answer = raw::claim(order, 0, &mut slot, block.corner, block.size, account.0);
+        let (mut slot, kind) = ([0], Kind::Rows.number());
+        let answer = raw::claim(kind, order, pixels_of(order), 0, &mut slot, block.corner, block.size, account.0);
         Refusal::outcome(answer.number)?;
         let [word] = slot;
         Ok(Tile { word })
@@ -179,7 +180,7 @@ impl ExactSizeIterator for Tiles<'_> {}
 impl FusedIterator for Tiles<'_> {}
 
 /// What a block shows, by rising corner, from [`Bed::shown`](crate::Bed::shown): the tiles inside it, or the one over
-/// all of it, cut to it.
+/// all of it, cut to it. The rest of the block is nobody's, or not scanned yet.
 ///
 /// ```
 /// use kingletbed::{Bed, Block, Shown};

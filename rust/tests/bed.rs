@@ -1,6 +1,7 @@
-//! What a bed promises beyond the comparison: it cannot go stale, any slots will do, and slots that lie do no harm.
+//! What a bed promises beyond the comparison: it cannot go stale, a scan can be taken apart and made again, nothing is
+//! given away that is not scanned, any slots will do, and slots that lie do no harm.
 
-use kingletbed::{raw, Account, Bed, Block, Choice, Found, Kind, Pixel, Refusal};
+use kingletbed::{raw, Account, Bed, Block, Choice, Found, Kind, Pixel, Refusal, Tile};
 use std::cell::Cell;
 use std::fmt::Debug;
 
@@ -22,7 +23,8 @@ fn no_stale_bed() -> Result<(), Refusal> {
     bed.claim(Block { corner: 3, size: 0 }, other)?;
     assert_eq!((bed.lookup(at)?.account, bed.rights(at, student)?), (other, false));
     // The raw calls with the count of before say otherwise, which is why a bed keeps its count to itself.
-    assert_eq!((raw::lookup(1, 1, bed.slots(), 1, 1).account, raw::rights(1, 1, bed.slots(), 1, 1, 8).yes), (0, 1));
+    let (stale, right) = (raw::lookup(0, 1, 4, 1, bed.slots(), 1, 1), raw::rights(0, 1, 4, 1, bed.slots(), 1, 1, 8));
+    assert_eq!((stale.number, stale.account, right.yes), (0, 0, 1));
     bed.release(Block::whole(1))?;
     assert_eq!(bed.lookup(at)?, Found { account: Account::NOBODY, block: Block::whole(1) });
     assert_eq!(bed.words(), []);
@@ -41,6 +43,101 @@ fn refused_calls_leave_a_bed() -> Result<(), Refusal> {
     assert_eq!(bed.feed(&[1]).map_err(|stopped| (stopped.refusal, stopped.taken)), Err((Refusal::ScanFull, 0)));
     assert_eq!(bed, before);
     assert_eq!(bed.slots(), before.slots());
+    Ok(())
+}
+
+/// Bed M in the order of a scan.
+fn seen(kind: Kind) -> Result<Vec<u8>, Refusal> {
+    let place = |place: u32| match kind {
+        Kind::Rows => Ok(place as usize),
+        Kind::Morton => Pixel::of_morton(2, place).map(|pixel| (4 * pixel.row + pixel.column) as usize),
+    };
+    (0..16).map(|at| Ok(M[place(at)?])).collect()
+}
+
+/// Bed M scanned so far by a kind.
+fn scanned(kind: Kind, pixels: usize) -> Result<Bed<Vec<u32>>, Refusal> {
+    let mut bed = Bed::fresh(kind, 2, vec![0; 16])?;
+    bed.feed(&seen(kind)?[..pixels])?;
+    Ok(bed)
+}
+
+/// A scan taken apart and made again is the same scan, wherever it is, and comes to the same end.
+#[test]
+fn scans_made_again() -> Result<(), Refusal> {
+    for (kind, pixels) in [Kind::Rows, Kind::Morton].into_iter().flat_map(|kind| (0..=16).map(move |at| (kind, at))) {
+        let bed = scanned(kind, pixels)?;
+        let (before, order, scanned, tiles) = (bed.clone(), bed.order(), bed.scanned(), bed.tiles().len());
+        let mut again = Bed::from_scan(kind, order, scanned, tiles, bed.into_slots())?;
+        assert_eq!(format!("{again:?}"), format!("{before:?}"));
+        assert_eq!((again.kind(), again.scanned(), again.is_scanned()), (kind, pixels as u32, pixels == 16));
+        again.feed(&seen(kind)?[pixels..])?;
+        assert_eq!((again.words(), again.is_scanned()), (&M_WORDS[..], true));
+    }
+    Ok(())
+}
+
+/// What opens no feed makes no bed.
+#[test]
+fn scans_not_made() {
+    let made = |order, pixels, tiles, slots| Bed::from_scan(Kind::Rows, order, pixels, tiles, slots).map(|_| ());
+    for (order, pixels, tiles, slots, number) in [
+        (11, 0, 0, &[][..], 1),
+        (2, 0, 1, &[], 2),
+        (2, 16, 1, &[1 << 31 | 69], 11),
+        (1, 4, 1, &[133], 12),
+        (2, 16, 1, &[1024 + 69], 13),
+        (2, 16, 1, &[64], 14),
+        (2, 16, 2, &[69, 69], 15),
+        (1, 4, 4, &[7, 1031, 2055, 3079], 16),
+        (2, 17, 1, &[69], 21),
+        (2, u32::MAX, 1, &[69], 21),
+        (2, 5, 1, &[69], 22),
+    ] {
+        assert_eq!(made(order, pixels, tiles, slots), Err(Refusal::from_number(number).expect("a refusal")));
+    }
+    assert_eq!(made(2, 6, 1, &[69]), Ok(()));
+    assert_eq!(made(2, 0, 0, &[u32::MAX]), Ok(()));
+}
+
+/// Where the scan has not been nothing is answered and nothing is given away, whatever is asked.
+#[test]
+fn nothing_on_unscanned_ground() -> Result<(), Refusal> {
+    for (kind, pixels) in [Kind::Rows, Kind::Morton].into_iter().flat_map(|kind| (0..16).map(move |at| (kind, at))) {
+        let mut bed = scanned(kind, pixels)?;
+        let before = bed.clone();
+        let unscanned = (0..16).map(|morton| Pixel::of_morton(2, morton));
+        let unscanned = unscanned.filter(|at| bed.lookup(at.expect("order 2")) == Err(Refusal::Unscanned));
+        assert_eq!(unscanned.count(), 16 - pixels);
+        assert_eq!(bed.write(&mut [0; 99]), Err(Refusal::Unscanned));
+        for (corner, size) in [(15, 0), (12, 1), (0, 2)] {
+            let block = Block { corner, size };
+            assert_eq!(bed.is_block_scanned(block), Ok(false));
+            assert_eq!(bed.account_of(block), Err(Refusal::Unscanned));
+            assert_eq!(bed.preview(block, Account(9)), Err(Refusal::Unscanned));
+            assert_eq!(bed.claim(block, Account(9)), Err(Refusal::Unscanned));
+            assert_eq!(bed.release(block), Err(Refusal::Unscanned));
+            assert!(bed.shown(block)?.eq(bed.part(block)?.iter().map(|&word| Tile::of_word(word))));
+        }
+        assert_eq!(bed.rights(Pixel { column: 3, row: 3 }, Account(1)), Err(Refusal::Unscanned));
+        assert_eq!((bed.slots(), bed.scanned()), (before.slots(), before.scanned()));
+    }
+    Ok(())
+}
+
+/// What is no block is refused as such, also where its numbers would wrap.
+#[test]
+fn no_blocks() -> Result<(), Refusal> {
+    let bed = Bed::fresh(Kind::Rows, 2, [0; 16])?;
+    for corner in [0, 1, 3, 4, 15, 16, 17, 1 << 20, u32::MAX - 3, u32::MAX - 2, u32::MAX] {
+        for size in [0, 1, 2, 3, 10, 11, 16, 31, 32, u32::MAX] {
+            let (block, valid) = (Block { corner, size }, size <= 2 && corner < 16 && corner % (1 << (2 * size)) == 0);
+            let whole = if valid { Ok(false) } else { Err(Refusal::BlockInvalid) };
+            let account = if valid { Refusal::Unscanned } else { Refusal::BlockInvalid };
+            assert_eq!((bed.is_block_scanned(block), bed.account_of(block)), (whole, Err(account)));
+            assert_eq!(bed.shown(block).err(), whole.err());
+        }
+    }
     Ok(())
 }
 
@@ -76,7 +173,7 @@ fn slots_of_any_kind() -> Result<(), Refusal> {
     Ok(())
 }
 
-/// A third bed is by rows and wholly scanned, whatever the two are; what they have not scanned counts as nobody's.
+/// A third bed is scanned as the first is; what the second has not scanned counts as nobody's.
 #[test]
 fn third_beds() -> Result<(), Refusal> {
     let mut first = Bed::fresh(Kind::Morton, 2, [0; 16])?;
@@ -84,15 +181,21 @@ fn third_beds() -> Result<(), Refusal> {
     let mut second = Bed::fresh(Kind::Rows, 2, vec![0; 16])?;
     second.feed(&[0, 3, 3])?;
     let inside = Bed::combine(Choice::Inside, &first, &second, vec![7; 16])?;
-    assert_eq!((inside.kind(), inside.order(), inside.scanned(), inside.is_scanned()), (Kind::Rows, 2, 16, true));
+    assert_eq!((inside.kind(), inside.order(), inside.scanned(), inside.is_scanned()), (Kind::Morton, 2, 5, false));
     assert_eq!((inside.words(), &inside.slots()[2..]), (&[1029, 4105][..], &[0; 14][..]));
+    assert_eq!(inside.lookup(Pixel { column: 3, row: 0 }), Err(Refusal::Unscanned));
     let mut outside = Bed::combine(Choice::Outside, &first, &second, [7; 4])?;
-    assert_eq!((outside.kind(), outside.scanned(), outside.slots()), (Kind::Rows, 16, &[5, 2053, 3077, 0][..]));
+    assert_eq!((outside.kind(), outside.scanned(), outside.slots()), (Kind::Morton, 5, &[5, 2053, 3077, 0][..]));
     // The third is a bed like any other, and the two go on as they were.
     outside.claim(Block { corner: 1, size: 0 }, Account(5))?;
     assert_eq!((outside.words(), inside.words().len()), (&[69][..], 2));
+    outside.feed(&[9, 9, 9])?;
+    assert_eq!((outside.scanned(), outside.words()), (8, &[69, 5129, 6153, 7177][..]));
     first.feed(&[9, 9, 9])?;
     assert_eq!((first.scanned(), second.scanned(), first.words()), (8, 3, &[69, 4169][..]));
+    // Of a finished first bed the third is finished, however far the second is.
+    let whole = Bed::combine(Choice::Outside, &Bed::from_slots(2, 4, M_WORDS)?, &second, [7; 16])?;
+    assert_eq!((whole.kind(), whole.is_scanned(), whole.words().len()), (Kind::Rows, true, 6));
     Ok(())
 }
 
@@ -201,6 +304,8 @@ fn ask(bed: &mut Bed<Turning>, seed: usize, counts: &mut [usize; 2]) {
     answered(bed.lookup(at), counts);
     answered(bed.rights(at, Account(9)), counts);
     answered(bed.part(block), counts);
+    answered(bed.account_of(block), counts);
+    answered(bed.is_block_scanned(block), counts);
     answered(bed.shown(block).map(|shown| shown.map(|tile| (tile.pixel(), tile.side())).collect::<Vec<_>>()), counts);
     answered(bed.decode(&mut [0; 16]), counts);
     answered(bed.write(&mut vec![0; bed.file_room()]), counts);
@@ -219,12 +324,15 @@ fn ask(bed: &mut Bed<Turning>, seed: usize, counts: &mut [usize; 2]) {
 fn slots_that_lie() {
     let mut counts = [0, 0];
     for seed in 0..5000 {
-        if let Ok(mut bed) = Bed::from_slots(2, seed % 6, Turning::new(seed)) {
+        let kind = if seed % 2 == 0 { Kind::Rows } else { Kind::Morton };
+        let made = [
+            Bed::from_slots(2, seed % 6, Turning::new(seed)),
+            Bed::from_scan(kind, 2, (seed % 18) as u32, seed % 6, Turning::new(seed)),
+            Bed::fresh(kind, 2, Turning::new(seed)),
+        ];
+        for mut bed in made.into_iter().flatten() {
             (0..4).for_each(|turn| ask(&mut bed, seed + turn, &mut counts));
         }
-        let mut bed =
-            Bed::fresh(if seed % 2 == 0 { Kind::Rows } else { Kind::Morton }, 2, Turning::new(seed)).expect("order 2");
-        (0..4).for_each(|turn| ask(&mut bed, seed + turn, &mut counts));
     }
     assert!(counts[0] > 10_000 && counts[1] > 10_000, "{counts:?}");
 }

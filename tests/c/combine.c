@@ -172,13 +172,12 @@ void test_combine_slots(void)
     }
 }
 
-/* The scan of the zones, by Morton numbers and not at its end. */
+/* The scan of the zones, by Morton numbers; of an order above 2 it is not at its end. */
 static void scan_zones(kb_scan *scan, uint32_t *slots, size_t slots_length, uint32_t order)
 {
-    static const uint8_t accounts[4] = {3, 3, 3, 3};
+    static const uint8_t accounts[16] = {3, 3, 3, 3, 0, 0, 0, 0, 0, 0, 0, 0, 3, 3, 3, 3};
     CHECK(kb_scan_fresh(scan, KB_MORTON, order, slots, slots_length) == KB_ACCEPTED);
-    CHECK(kb_scan_feed(scan, accounts, 4).number == KB_ACCEPTED && scan->pixels == 4);
-    CHECK(kb_scan_claim(scan, 12, 1, 3) == KB_ACCEPTED && scan->tiles == 2);
+    CHECK(kb_scan_feed(scan, accounts, 16).number == KB_ACCEPTED && scan->pixels == 16 && scan->tiles == 2);
 }
 
 static int is_whole(const kb_scan *scan, const uint32_t *slots, size_t slots_length, const uint32_t *list, size_t tiles)
@@ -259,11 +258,13 @@ static void follows_rule(uint64_t choice, const kb_scan *first, const kb_scan *s
 /* Two beds that claims change one after another. */
 void test_many_combined(void)
 {
+    static const uint8_t nobodys[256] = {0};
     static uint32_t slots1[256], slots2[256];
     uint32_t seed = 7;
     kb_scan first = NO_SCAN, second = NO_SCAN;
     CHECK(kb_scan_fresh(&first, KB_ROWS, 4, slots1, 256) == KB_ACCEPTED);
     CHECK(kb_scan_fresh(&second, KB_ROWS, 4, slots2, 256) == KB_ACCEPTED);
+    CHECK(kb_scan_feed(&first, nobodys, 256).taken == 256 && kb_scan_feed(&second, nobodys, 256).taken == 256);
     for (int turn = 0; turn < 400; turn++) {
         seed = seed * 1664525 + 1013904223;
         uint32_t account = seed >> 28 & 3, size = seed >> 25 & 3, column = seed >> 16 & 15, row = seed >> 12 & 15;

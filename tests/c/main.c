@@ -28,6 +28,13 @@ int main(void)
     test_lookup_has();
     test_shown();
     test_many_claims();
+    test_unscanned();
+    test_unscanned_claim();
+    test_unscanned_shown();
+    test_unscanned_combine();
+    test_unscanned_checks();
+    test_unscanned_edges();
+    test_many_unscanned();
     test_combine();
     test_combine_same();
     test_combine_choices();

@@ -18,7 +18,7 @@ static struct {
 
 static void write_bed(void *unused)
 {
-    kb_write_answer answer = kb_write(3, bed.tiles, bed.slots, PIXELS, bed.file, sizeof bed.file);
+    kb_write_answer answer = kb_write(KB_ROWS, 3, PIXELS, bed.tiles, bed.slots, PIXELS, bed.file, sizeof bed.file);
     (void)unused;
     bed.number = answer.number;
     bed.length = answer.length;

@@ -18,18 +18,23 @@ void scan_bed_m(kb_scan *scan, uint32_t *slots, size_t slots_length)
     CHECK(scan->tiles == 4 && scan->pixels == 16);
 }
 
+/* Without slots: a bed of one pixel, before it is scanned and after. */
 void test_empty(void)
 {
     kb_scan scan = NO_SCAN;
     uint8_t account = 0, file[6];
     CHECK(kb_scan_check(&scan) == KB_ACCEPTED);
-    CHECK(kb_scan_lookup(&scan, 0, 0).number == KB_ACCEPTED && kb_scan_lookup(&scan, 0, 0).account == 0);
+    CHECK(kb_scan_lookup(&scan, 0, 0).number == KB_UNSCANNED && kb_scan_rights(&scan, 0, 0, 7).number == KB_UNSCANNED);
+    CHECK(kb_scan_preview(&scan, 0, 0, 7).number == KB_UNSCANNED && kb_scan_claim(&scan, 0, 0, 0) == KB_UNSCANNED);
+    CHECK(kb_scan_write(&scan, file, 6).number == KB_UNSCANNED);
+    CHECK(kb_scan_shown(&scan, 0, 0).number == KB_ACCEPTED && kb_scan_shown(&scan, 0, 0).account == KB_NO_ACCOUNT);
+    CHECK(kb_scan_feed(&scan, NULL, 0).number == KB_ACCEPTED);
+    CHECK(kb_scan_feed(&scan, &account, 1).taken == 1 && scan.pixels == 1);
+    CHECK(finds(&scan, 0, 0, 0, 0, 0));
     CHECK(kb_scan_shown(&scan, 0, 0).number == KB_ACCEPTED && kb_scan_shown(&scan, 0, 0).account == 0);
     CHECK(kb_scan_write(&scan, file, 6).length == 6);
     CHECK(kb_scan_preview(&scan, 0, 0, 7).number == KB_SLOTS_EXCEEDED);
     CHECK(kb_scan_claim(&scan, 0, 0, 7) == KB_SLOTS_EXCEEDED && scan.tiles == 0);
-    CHECK(kb_scan_feed(&scan, NULL, 0).number == KB_ACCEPTED);
-    CHECK(kb_scan_feed(&scan, &account, 1).taken == 1 && scan.pixels == 1);
 }
 
 void test_fresh(void)
@@ -112,14 +117,14 @@ void test_preview(void)
     CHECK(previews(&scan, 0, 2, 63, KB_ACCEPTED, 1) && previews(&scan, 0, 2, 0, KB_ACCEPTED, 0));
     CHECK(previews(&scan, 3, 1, 64, KB_BLOCK_INVALID, 0) && previews(&scan, 3, 0, 64, KB_ACCOUNT_TOO_LARGE, 0));
     CHECK(same(&scan, &before) && memcmp(kept, slots, sizeof slots) == 0);
-    CHECK(kb_preview(2, 4, copy, 6, 3, 0, 0).tiles == 6);
-    CHECK(kb_preview(2, 4, copy, 6, 3, 0, 9).number == KB_SLOTS_EXCEEDED);
-    CHECK(kb_preview(2, 4, copy, 7, 3, 0, 9).tiles == 7);
-    CHECK(kb_preview(1, 3, quarters, 3, 2, 0, 7).tiles == 1);
-    CHECK(kb_preview(2, 5, copy, 7, 3, 1, 64).number == KB_HIGH_BITS_SET);
-    CHECK(kb_preview(2, 8, copy, 7, 3, 0, 9).number == KB_COUNT_ABOVE_SLOTS);
-    CHECK(kb_preview(11, 8, copy, 7, 3, 0, 9).number == KB_ORDER_TOO_LARGE);
-    CHECK(kb_preview(0, 0, NULL, 0, 0, 0, 0).number == KB_ACCEPTED);
+    CHECK(kb_preview(KB_ROWS, 2, 16, 4, copy, 6, 3, 0, 0).tiles == 6);
+    CHECK(kb_preview(KB_ROWS, 2, 16, 4, copy, 6, 3, 0, 9).number == KB_SLOTS_EXCEEDED);
+    CHECK(kb_preview(KB_ROWS, 2, 16, 4, copy, 7, 3, 0, 9).tiles == 7);
+    CHECK(kb_preview(KB_MORTON, 1, 4, 3, quarters, 3, 2, 0, 7).tiles == 1);
+    CHECK(kb_preview(KB_ROWS, 2, 16, 5, copy, 7, 3, 1, 64).number == KB_HIGH_BITS_SET);
+    CHECK(kb_preview(KB_ROWS, 2, 16, 8, copy, 7, 3, 0, 9).number == KB_COUNT_ABOVE_SLOTS);
+    CHECK(kb_preview(KB_ROWS, 11, 16, 8, copy, 7, 3, 0, 9).number == KB_ORDER_TOO_LARGE);
+    CHECK(kb_preview(KB_ROWS, 0, 1, 0, NULL, 0, 0, 0, 0).number == KB_ACCEPTED);
 }
 
 /* Accounts that a byte would cut are refused. */
@@ -191,6 +196,12 @@ void test_file(void)
     CHECK(again.kind == KB_ROWS && again.order == 2 && again.pixels == 16 && again.tiles == 4);
     CHECK(again.slots == others && again.slots_length == 4 && memcmp(others, slots, sizeof others) == 0);
     CHECK(kb_scan_feed(&again, bed_m, 1).number == KB_SCAN_FULL && again.tiles == 4);
+    CHECK(kb_scan_lookup(&again, 3, 3).account == 9 && kb_scan_claim(&again, 12, 1, 0) == KB_ACCEPTED);
+
+    kb_read_answer read = kb_read(file, 32, others, 4);
+    uint32_t pixels = kb_extent(read.order).pixels;
+    CHECK(kb_lookup(KB_ROWS, read.order, pixels, read.tiles, others, 4, 3, 3).account == 9);
+    CHECK(kb_write(KB_ROWS, read.order, pixels, read.tiles, others, 4, file, 32).length == 32);
 }
 
 /* Whether two lookups answered the same. */
@@ -200,7 +211,7 @@ static int alike(kb_lookup_answer one, kb_lookup_answer other)
            && one.size == other.size;
 }
 
-static int finds(const kb_scan *scan, uint32_t column, uint32_t row, uint8_t account, uint32_t corner, uint32_t size)
+int finds(const kb_scan *scan, uint32_t column, uint32_t row, uint8_t account, uint32_t corner, uint32_t size)
 {
     kb_lookup_answer named = {KB_ACCEPTED, account, corner, size};
     return alike(kb_scan_lookup(scan, column, row), named);
@@ -224,7 +235,6 @@ void test_lookup(void)
 {
     uint32_t slots[64];
     kb_scan scan = NO_SCAN;
-    CHECK(finds(&scan, 0, 0, 0, 0, 0));
     scan_bed_m(&scan, slots, 64);
     CHECK(finds(&scan, 1, 1, 5, 0, 1) && finds(&scan, 3, 1, 9, 7, 0) && finds(&scan, 3, 2, 9, 12, 1));
     CHECK(finds(&scan, 2, 0, 0, 4, 0));
@@ -256,7 +266,7 @@ void test_lookup_has(void)
     CHECK(!kb_lookup_has(larger, 0, 0) && !kb_lookup_has(off, 0, 0));
 }
 
-/* Each block of a bed shows what its pixels are. */
+/* Each block of a finished scan shows what its pixels are. */
 static void shows(const kb_scan *scan)
 {
     uint8_t raster[256];
@@ -272,7 +282,7 @@ static void shows(const kb_scan *scan)
                 if (raster[at.row * bed.side + at.column] != account)
                     account = KB_NO_ACCOUNT;
             }
-            CHECK(shown.number == KB_ACCEPTED && shown.account == account);
+            CHECK(shown.number == KB_ACCEPTED && shown.account == account && shown.scanned == 1);
             CHECK(account != KB_NO_ACCOUNT || shown.length > 0);
         }
 }
@@ -293,10 +303,11 @@ void test_shown(void)
     CHECK(shown.number == KB_ACCEPTED && shown.length == 0 && shown.account == 0);
     shown = kb_scan_shown(&scan, 1, 1);
     CHECK(shown.number == KB_BLOCK_INVALID && shown.length == 0 && shown.account == KB_NO_ACCOUNT);
-    CHECK(shown.tiles == slots);
+    CHECK(shown.tiles == slots && shown.scanned == 0);
     slots[0] = 0;
     shown = kb_scan_shown(&scan, 0, 0);
     CHECK(shown.number == KB_ACCOUNT_ZERO && shown.length == 0 && shown.account == KB_NO_ACCOUNT);
+    CHECK(shown.tiles == slots && shown.scanned == 0);
 }
 
 /* Claims one after another, each previewed and then made through the scan alone, beside a plain bed. */

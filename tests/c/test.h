@@ -18,6 +18,9 @@ void test_failed(const char *condition, const char *file, int line);
 /* Have two scans the same fields? */
 int same(const kb_scan *one, const kb_scan *other);
 
+/* Does a lookup on a scan answer this account and this block? */
+int finds(const kb_scan *scan, uint32_t column, uint32_t row, uint8_t account, uint32_t corner, uint32_t size);
+
 /* Scans bed M of the rules: order 2, rows 5 5 0 0, 5 5 0 9, 9 0 9 9 and 0 0 9 9, in 4 tiles. */
 void scan_bed_m(kb_scan *scan, uint32_t *slots, size_t slots_length);
 
@@ -36,6 +39,13 @@ void test_lookup(void);
 void test_lookup_has(void);
 void test_shown(void);
 void test_many_claims(void);
+void test_unscanned(void);
+void test_unscanned_claim(void);
+void test_unscanned_shown(void);
+void test_unscanned_combine(void);
+void test_unscanned_checks(void);
+void test_unscanned_edges(void);
+void test_many_unscanned(void);
 void test_combine(void);
 void test_combine_same(void);
 void test_combine_choices(void);

@@ -6,11 +6,11 @@ use Rattle.morton.specs.Morton.{morton, column, row}
 use Rattle.quadtree.specs.Raster.{aligned, uniform, paint}
 use Rattle.quadtree.specs.Quadtree.{single, four, blocks, quadtree}
 use Rattle.bed.specs.Places.{placeOf, pixelAt, scanned, rows}
-use Rattle.bed.specs.Bed.{hasUnscanned, putPixel, pixelCheck, feedPixels, feedBed, blockIn, claimCheck}
+use Rattle.bed.specs.Bed.{hasUnscanned, putPixel, pixelCheck, feedPixels, feedBed, blockIn, claimCheck, claimBedCheck}
 use Rattle.bed.specs.Worked.{PlainLines}
 
 pub plain-lines : PlainLines
-unfolding if some tabulate must unless morton column row aligned uniform paint single four blocks quadtree placeOf pixelAt scanned rows hasUnscanned putPixel pixelCheck feedPixels feedBed blockIn claimCheck
+unfolding if some tabulate must unless morton column row aligned uniform paint single four blocks quadtree placeOf pixelAt scanned rows hasUnscanned putPixel pixelCheck feedPixels feedBed blockIn claimCheck claimBedCheck
 plain-lines = record {
   M-six-slots = (refl, refl);
   M-scanned = refl;
@@ -27,5 +27,13 @@ plain-lines = record {
   M-release = refl;
   M-no-release = refl;
   M-released = refl;
-  unscanned = (refl, refl);
+  unscanned-fed = (refl, refl);
+  unscanned-claimed = refl;
+  rows-scanned = refl;
+  rows-unscanned = refl;
+  morton-scanned = refl;
+  morton-unscanned = refl;
+  release-unscanned = refl;
+  unscanned-first = refl;
+  block-first = refl;
 }

@@ -6,18 +6,20 @@
 --     pixelCheck-passed  what an account that is not refused passed
 --     FedAlike           two feeds answer alike, and leave beds that agree and are good
 --     feedPixels-alike   feeds of beds that agree
---     claimCheck-agree   claims on rasters that agree are refused alike
+--     claimCheck-agree   claims on beds whose rasters agree are refused alike
+--     claim-passed       what a claim that is not refused passed
 --     Room m b           the linear quadtree of the bed b fits m slots
 --     feedPixels-room    a feed leaves a bed that fits the slots, if it was given one
 use mathlib.Core.Path.{_≡_, refl, sym, _∙_}
+use mathlib.Core.Bool.{not}
 use mathlib.Core.List.{List, [], _∷_}
 use Prim.Native.Nat.{ℕ, suc, _+_, _^_, _≤_, _<_}
 use native.Mathlib.Decide.{decLt, decLe}
 use native.Mathlib.Omega.{arith}
 use lib.ListN.{length}
-use Rattle.basics.proofs.Tests.{Test, test-leb, test-eqb, test-and, test-not}
+use Rattle.basics.proofs.Tests.{Test, test, test-leb, test-eqb, test-and, test-not}
 use Rattle.refusal.proofs.CheckLaws.{must-inv, by-unless, unless-alike}
-use Rattle.refusal.specs.Refusal.{accepted}
+use Rattle.refusal.specs.Refusal.{accepted, tileUnscanned}
 use Rattle.tile.specs.Tile.{highestOrder, highestAccount}
 use Rattle.quadtree.specs.Raster.{Aligned, paint}
 use Rattle.quadtree.specs.Quadtree.{quadtree}
@@ -25,8 +27,9 @@ use Rattle.quadtree.proofs.Alignment.{test-aligned}
 use Rattle.quadtree.proofs.Shown.{paint-in, paint-out}
 use Rattle.quadtree.proofs.ValidLaws.{quadtree-cong}
 use Rattle.bed.specs.declared.Kind.{Kind}
-use Rattle.bed.specs.Places.{pixelAt}
-use Rattle.bed.specs.Bed.{Bed, bedOf, BedFed, stopped, putPixel, pixelCheck, feedPixels, blockIn, claimed, claimCheck}
+use Rattle.bed.specs.Places.{placeOf, pixelAt}
+use Rattle.bed.specs.Bed.{Bed, bedOf, BedFed, stopped, hasUnscanned, putPixel, pixelCheck, feedPixels, blockIn, claimed, claimCheck, claimBedCheck}
+use Rattle.bed.proofs.ScannedBlocks.{test-scanned}
 
 pub test-blockIn : (n c k : ℕ) → Test ((k ≤ n) × ((c < 4 ^ n) × Aligned k c)) (blockIn n c k)
 unfolding blockIn
@@ -118,9 +121,26 @@ module _ (m : ℕ) (k : Kind) (n : ℕ) where
   feedPixels-alike j s f g [] e w = stopped-alike accepted j s f g e w
   feedPixels-alike j s f g (a ∷ bytes) e w = pixel-alike j s a f g bytes e w (λ v. feedPixels-alike (j + 1) (s + 1) (put k n s a f) (put k n s a g) bytes (put-agree s a f g e) v)
 
-pub claimCheck-agree : (m n : ℕ) (f g : ℕ → ℕ) (c k a : ℕ) → Agree n f g → claimCheck m n f c k a ≡ claimCheck m n g c k a
+pub claimCheck-agree : (m : ℕ) (kind : Kind) (n s : ℕ) (f g : ℕ → ℕ) (c k a : ℕ) → Agree n f g → claimCheck m (bedOf kind n s f) c k a ≡ claimCheck m (bedOf kind n s g) c k a
 unfolding claimCheck
-claimCheck-agree m n f g c k a e = rw (quadtree-cong n (claimed f c k a) (claimed g c k a) (paint-agree n c (c + 4 ^ k) a e))
+claimCheck-agree m kind n s f g c k a e = rw (quadtree-cong n (claimed f c k a) (claimed g c k a) (paint-agree n c (c + 4 ^ k) a e))
+
+-- what a claim that is not refused passed
+pub record Claims (m : ℕ) (b : Bed) (c k a : ℕ) : Type 0 where
+  pub inside : (k ≤ b .order) × ((c < 4 ^ b .order) × Aligned k c)
+  pub scanned : (z : ℕ) → c ≤ z → z < c + 4 ^ k → placeOf (b .kind) (b .order) z < b .scanned
+  pub low : a ≤ highestAccount
+  pub room : length (quadtree (b .order) (claimed (b .account) c k a)) ≤ m
+
+pub claim-passed : (m : ℕ) (b : Bed) (c k a : ℕ) → claimBedCheck m b c k a ≡ accepted → Claims m b c k a
+unfolding claimBedCheck claimCheck
+claim-passed m b c k a e =
+    let n = must-inv {r = tileUnscanned} (test (not (hasUnscanned b)) (λ t. t) (λ t. t)) (omega arith) e in
+    let p = must-inv (test-blockIn (b .order) c k) (omega arith) (n .1) in
+    let s = must-inv (test-scanned (b .kind) (b .order) (b .scanned) c k) (omega arith) (p .1) in
+    let q = must-inv (test-leb a highestAccount) (omega arith) (s .1) in
+    let r = must-inv (test-leb (length (quadtree (b .order) (claimed (b .account) c k a))) m) (omega arith) (q .1) in
+    record { inside = p .0; scanned = s .0; low = q .0; room = r .0 }
 
 abbrev pub Room : ℕ → Bed → Type 0
 Room m b = length (quadtree (b .order) (b .account)) ≤ m

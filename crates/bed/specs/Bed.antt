@@ -1,6 +1,7 @@
 -- The plain bed (document 01, "The plain bed"): what every call means, with no list in sight. Definitions only.
 --     Bed                     order, kind, pixels scanned, and the account of each pixel by its Morton number
 --     bedOf k n s f           the bed of kind k and order n with s pixels scanned and the raster f
+--     shownBed c slots        the bed that a scan record and the slots of its list show
 --     freshBed k n            a fresh scan: no pixel scanned, every account 0
 --     hasUnscanned b          a somebody's pixel is unscanned
 --     putPixel b a            the account a put on the next place
@@ -10,21 +11,25 @@
 --     feedPixels m k b bytes   the accounts in turn, k taken before, up to the first that is refused
 --     feedBed m b bytes        the feed of a bed with m slots: 22, then the accounts
 --     blockIn n c k           the block of size k at the corner c is a quadrant of a bed of order n
---     claimCheck m n f c k a  32, 24, 25 of a claim with m slots on the raster f
---     claimed f c k a         the raster after it
+--     claimed f c k a         the raster f after a claim
+--     claimCheck m b c k a    32, 52, 24, 25 of a claim with m slots
+--     claimBedCheck m b c k a   the claim of a bed with m slots: 22, then these
 use mathlib.Core.Bool.{Bool, _&&_, not}
 use mathlib.Core.List.{List, [], _∷_}
 use Prim.Native.Nat.{ℕ, _+_, _^_}
 use lib.Dec.{leb, ltb, eqb}
 use lib.ListN.{length}
 use Rattle.basics.specs.Choice.{if, some}
-use Rattle.refusal.specs.Refusal.{accepted, tileUnscanned, scanFull, accountTooLarge, slotsExceeded, blockInvalid}
+use Rattle.refusal.specs.Refusal.{accepted, tileUnscanned, scanFull, accountTooLarge, slotsExceeded}
+use Rattle.refusal.specs.Refusal.{blockInvalid, unscanned}
 use Rattle.refusal.specs.Checks.{must, unless}
 use Rattle.tile.specs.Tile.{highestAccount}
-use Rattle.quadtree.specs.Raster.{aligned, paint}
+use Rattle.tile.specs.Slots.{tilesIn}
+use Rattle.quadtree.specs.Raster.{aligned, accountAt, paint}
 use Rattle.quadtree.specs.Quadtree.{quadtree}
 use Rattle.bed.specs.declared.Kind.{Kind}
-use Rattle.bed.specs.Places.{pixelAt, scanned}
+use Rattle.bed.specs.declared.Scan.{Scan}
+use Rattle.bed.specs.Places.{pixelAt, scanned, unscannedIn}
 
 pub record Bed : Type 0 where
   pub order : ℕ
@@ -34,6 +39,9 @@ pub record Bed : Type 0 where
 
 abbrev pub bedOf : Kind → ℕ → ℕ → (ℕ → ℕ) → Bed
 bedOf k n s f = record { order = n; kind = k; scanned = s; account = f }
+
+abbrev pub shownBed : Scan → List ℕ → Bed
+shownBed c slots = bedOf (c .kind) (c .order) (c .pixels) (accountAt (tilesIn (c .tiles) slots))
 
 abbrev pub freshBed : Kind → ℕ → Bed
 freshBed k n = bedOf k n 0 (λ z. 0)
@@ -77,8 +85,12 @@ blockIn n c k = leb k n && (ltb c (4 ^ n) && aligned k c)
 abbrev pub claimed : (ℕ → ℕ) → ℕ → ℕ → ℕ → ℕ → ℕ
 claimed f c k a = paint f c (c + 4 ^ k) a
 
-unfoldable pub claimCheck : ℕ → ℕ → (ℕ → ℕ) → ℕ → ℕ → ℕ → ℕ
-claimCheck m n f c k a =
-    must (blockIn n c k) blockInvalid
+unfoldable pub claimCheck : ℕ → Bed → ℕ → ℕ → ℕ → ℕ
+claimCheck m b c k a =
+    must (blockIn (b .order) c k) blockInvalid
+    (must (not (unscannedIn (b .kind) (b .order) (b .scanned) c k)) unscanned
     (must (isAccount a) accountTooLarge
-    (must (leb (length (quadtree n (claimed f c k a))) m) slotsExceeded accepted))
+    (must (leb (length (quadtree (b .order) (claimed (b .account) c k a))) m) slotsExceeded accepted)))
+
+unfoldable pub claimBedCheck : ℕ → Bed → ℕ → ℕ → ℕ → ℕ
+claimBedCheck m b c k a = must (not (hasUnscanned b)) tileUnscanned (claimCheck m b c k a)

@@ -4,12 +4,13 @@
 --                         and order n
 --     pixelAt k n i       the Morton number of the pixel with i places before its own
 --     scanned k n s z     the pixel z is scanned once s pixels are: fewer than s places come before its own
+--     unscannedIn k n s c j   the block of size j at the corner c has a pixel that is then not scanned
 --     rows n f            the accounts of the raster f of order n, row after row
-use mathlib.Core.Bool.{Bool}
+use mathlib.Core.Bool.{Bool, not}
 use mathlib.Core.List.{List}
 use Prim.Native.Nat.{ℕ, _+_, _*_, _/_, _%_, _^_}
 use lib.Dec.{ltb}
-use Rattle.basics.specs.Choice.{tabulate}
+use Rattle.basics.specs.Choice.{some, tabulate}
 use Rattle.morton.specs.Morton.{morton, column, row}
 use Rattle.bed.specs.declared.Kind.{Kind}
 use Rattle.bed.specs.declared.Kind.the-variants.{Rows, Morton}
@@ -28,6 +29,9 @@ pixelAt Morton n i = i
 
 unfoldable pub scanned : Kind → ℕ → ℕ → ℕ → Bool
 scanned k n s z = ltb (placeOf k n z) s
+
+abbrev pub unscannedIn : Kind → ℕ → ℕ → ℕ → ℕ → Bool
+unscannedIn k n s c j = some (λ z. not (scanned k n s z)) c (4 ^ j)
 
 unfoldable pub rows : ℕ → (ℕ → ℕ) → List ℕ
 rows n f = tabulate (λ i. f (pixelAt Rows n i)) 0 (4 ^ n)

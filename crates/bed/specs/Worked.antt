@@ -7,9 +7,11 @@ use mathlib.Core.List.{List, [], _∷_, _++_}
 use Prim.Native.Nat.{ℕ}
 use lib.ListN.{take, drop, getD}
 use Rattle.refusal.specs.Refusal.{accepted, tileUnscanned, scanFull, accountTooLarge, slotsExceeded}
-use Rattle.bed.specs.declared.Kind.the-variants.{Rows}
+use Rattle.refusal.specs.Refusal.{blockInvalid, unscanned}
+use Rattle.bed.specs.declared.Kind.{Kind}
+use Rattle.bed.specs.declared.Kind.the-variants.{Rows, Morton}
 use Rattle.bed.specs.Places.{rows}
-use Rattle.bed.specs.Bed.{Bed, bedOf, BedFed, freshBed, feedBed, claimed, claimCheck}
+use Rattle.bed.specs.Bed.{Bed, bedOf, BedFed, freshBed, feedBed, claimed, claimBedCheck}
 
 -- bed M, order 2, by Morton number, by rows, and as the words of its list: (0, 1, 5) (7, 0, 9) (8, 0, 9) (12, 1, 9), by
 -- corner, size, account
@@ -26,9 +28,17 @@ wordsM = 69 ∷ 7177 ∷ 8201 ∷ 12361 ∷ []
 abbrev pub slotsM : List ℕ
 slotsM = wordsM ++ 1 ∷ 1 ∷ []
 
--- a bed of order 2 by rows with the first row scanned and nobody's, and then (3, size 0) claimed
+-- the bed M, wholly scanned
+abbrev pub wholeM : Bed
+wholeM = bedOf Rows 2 16 bedM
+
+-- a bed of order 2 by rows with the first row scanned, on which somebody has the pixel (1, 1) yet, of number 3
 abbrev pub claimedEarly : Bed
 claimedEarly = bedOf Rows 2 4 (claimed (λ z. 0) 3 0 5)
+
+-- a nobody's bed of order 2 of which s pixels are scanned
+abbrev pub nobodys : Kind → ℕ → Bed
+nobodys k s = bedOf k 2 s (λ z. 0)
 
 abbrev pub rowScan : ℕ → ℕ → List ℕ → BedFed
 rowScan n m bytes = feedBed m (freshBed Rows n) bytes
@@ -53,12 +63,23 @@ pub record PlainLines : Type 0 where
   -- account 63 passes, 64 gives 24, fed and claimed
   pub fed-63 : Says (rowScan 0 1 (63 ∷ [])) accepted 1
   pub fed-64 : Says (rowScan 0 1 (64 ∷ [])) accountTooLarge 0
-  pub claimed-63 : claimCheck 6 2 bedM 8 0 63 ≡ accepted
-  pub claimed-64 : claimCheck 6 2 bedM 8 0 64 ≡ accountTooLarge
+  pub claimed-63 : claimBedCheck 6 wholeM 8 0 63 ≡ accepted
+  pub claimed-64 : claimBedCheck 6 wholeM 8 0 64 ≡ accountTooLarge
   -- on M, releasing (3, size 0) leaves six tiles
-  pub M-release : claimCheck 6 2 bedM 3 0 0 ≡ accepted
-  pub M-no-release : claimCheck 5 2 bedM 3 0 0 ≡ slotsExceeded
+  pub M-release : claimBedCheck 6 wholeM 3 0 0 ≡ accepted
+  pub M-no-release : claimBedCheck 5 wholeM 3 0 0 ≡ slotsExceeded
   pub M-released : rows 2 (claimed bedM 3 0 0)
       ≡ 5 ∷ 5 ∷ 0 ∷ 0 ∷ 5 ∷ 0 ∷ 0 ∷ 9 ∷ 9 ∷ 0 ∷ 9 ∷ 9 ∷ 0 ∷ 0 ∷ 9 ∷ 9 ∷ []
-  -- "if the claim left a tile on an unscanned pixel, the next feed gives 22"
-  pub unscanned : Says (feedBed 6 claimedEarly rowsM) tileUnscanned 0
+  -- somebody's pixel that is unscanned gives 22, to a feed and to a claim; no list of calls leaves such a bed
+  pub unscanned-fed : Says (feedBed 6 claimedEarly rowsM) tileUnscanned 0
+  pub unscanned-claimed : claimBedCheck 6 claimedEarly 0 3 64 ≡ tileUnscanned
+  -- six pixels scanned: by rows (0, size 1) is scanned, which ends with the sixth pixel, and (4, size 1) is not; in
+  -- Morton order (0, size 1) is, and of (4, size 1) only the first two pixels are
+  pub rows-scanned : claimBedCheck 6 (nobodys Rows 6) 0 1 5 ≡ accepted
+  pub rows-unscanned : claimBedCheck 6 (nobodys Rows 5) 0 1 5 ≡ unscanned
+  pub morton-scanned : claimBedCheck 6 (nobodys Morton 6) 4 0 5 ≡ accepted
+  pub morton-unscanned : claimBedCheck 6 (nobodys Morton 6) 4 1 5 ≡ unscanned
+  -- a release too, and before the account and the slots are looked at, but behind the block
+  pub release-unscanned : claimBedCheck 6 (nobodys Rows 6) 4 1 0 ≡ unscanned
+  pub unscanned-first : claimBedCheck 0 (nobodys Rows 6) 4 1 64 ≡ unscanned
+  pub block-first : claimBedCheck 0 (nobodys Rows 6) 5 1 64 ≡ blockInvalid

@@ -10,26 +10,28 @@ use Rattle.refusal.proofs.CheckLaws.{unless-alike}
 use Rattle.tile.specs.Tile.{tileOf}
 use Rattle.tile.specs.Slots.{tilesIn}
 use Rattle.list_check.specs.ListCheck.{listCheck}
+use Rattle.bed.specs.declared.Scan.{Scan}
+use Rattle.scan_check.specs.Opening.{opening}
 use Rattle.claim.specs.declared.Claimed.{Claimed}
 use Rattle.claim.specs.Claim.{claimRefusal, claimOf}
 use Rattle.claim.specs.Preview.{previewOf, Copies, PreviewIsClaim}
 
-pub claim-answer : (n t : ℕ) (slots : List ℕ) (c k a : ℕ) → claimOf n t slots c k a .answer ≡ previewOf n t slots c k a
+pub claim-answer : (scan : Scan) (slots : List ℕ) (c k a : ℕ) → claimOf scan slots c k a .answer ≡ previewOf scan slots c k a
 unfolding claimOf previewOf
-claim-answer n t slots c k a = unless-alike (λ (x : After Claimed) (y : Claimed). x .answer ≡ y) (claimRefusal n t slots c k a) (λ number. refl) (λ e. refl)
+claim-answer scan slots c k a = unless-alike (λ (x : After Claimed) (y : Claimed). x .answer ≡ y) (claimRefusal scan slots c k a) (λ number. refl) (λ e. refl)
 
 tiles-copy : {t : ℕ} {slots copy : List ℕ} → Copies t slots copy → tilesIn t copy ≡ tilesIn t slots
 unfolding tilesIn
 tiles-copy h = ap (λ (x : List ℕ). map tileOf x) (h .list)
 
-checks-copy : {t : ℕ} {slots copy : List ℕ} (n : ℕ) → Copies t slots copy → listCheck n t copy ≡ listCheck n t slots
-unfolding listCheck
-checks-copy n h = rw (h .list, h .lent) refl
+checks-copy : (scan : Scan) {slots copy : List ℕ} → Copies (scan .tiles) slots copy → opening scan copy ≡ opening scan slots
+unfolding opening listCheck
+checks-copy scan h = rw (tiles-copy h, h .list, h .lent) refl
 
-preview-copy : (n t : ℕ) (slots copy : List ℕ) (c k a : ℕ) → Copies t slots copy → previewOf n t copy c k a ≡ previewOf n t slots c k a
+preview-copy : (scan : Scan) (slots copy : List ℕ) (c k a : ℕ) → Copies (scan .tiles) slots copy → previewOf scan copy c k a ≡ previewOf scan slots c k a
 unfolding previewOf claimRefusal
-preview-copy n t slots copy c k a h = rw (checks-copy n h, tiles-copy h, h .lent) refl
+preview-copy scan slots copy c k a h = rw (checks-copy scan h, tiles-copy h, h .lent) refl
 
 pub preview-claim : PreviewIsClaim
 unfolding PreviewIsClaim
-preview-claim n t slots copy c k a h = sym (claim-answer n t copy c k a ∙ preview-copy n t slots copy c k a h)
+preview-claim scan slots copy c k a h = sym (claim-answer scan copy c k a ∙ preview-copy scan slots copy c k a h)

@@ -24,6 +24,7 @@ use Rattle.quadtree.specs.Quadtree.{blocks, quadtree}
 use Rattle.quadtree.proofs.Alignment.{area-mono, area-pos}
 use Rattle.claim_split.specs.Split.{pieces}
 use Rattle.claim_split.proofs.Split.{split-pieces}
+use Rattle.bed.specs.declared.Scan.{Scan}
 use Rattle.bed.specs.Bed.{claimed}
 use Rattle.claim_plan.specs.declared.Planned.{Planned}
 use Rattle.claim_plan.specs.Plan.{inner}
@@ -36,14 +37,14 @@ use Rattle.claim.specs.Outcome.{Known, Ends}
 use Rattle.claim.specs.declared.Outcome.{Outcome}
 use Rattle.claim.specs.declared.Outcome.the-variants.{Refused, Fits}
 use Rattle.basics.proofs.MapLaws.{take-map, drop-map}
-use Rattle.claim.proofs.Refusals.{claimOf-done, refusal-claimable}
+use Rattle.claim.proofs.Refusals.{claimOf-done, refusal-passed}
 use Rattle.claim.proofs.PreviewLaws.{claim-answer}
 
-module _ (n t : ℕ) (s : List ℕ) (c k a : ℕ) {x : Outcome} where
-  pub ends-refused : {number : ℕ} → x ≡ Refused number → Ends n t s c k a x → (number ≡ accepted → ⊥) × (claimRefusal n t s c k a ≡ number)
+module _ (scan : Scan) (s : List ℕ) (c k a : ℕ) {x : Outcome} where
+  pub ends-refused : {number : ℕ} → x ≡ Refused number → Ends scan s c k a x → (number ≡ accepted → ⊥) × (claimRefusal scan s c k a ≡ number)
   ends-refused e h = rw e at h
 
-  pub ends-fits : {p : Planned} → x ≡ Fits p → Ends n t s c k a x → Known n t s c k a p × (p .tiles ≤ length s)
+  pub ends-fits : {p : Planned} → x ≡ Fits p → Ends scan s c k a x → Known scan s c k a p × (p .tiles ≤ length s)
   ends-fits e h = rw e at h
 
 pub record Bounds (length t a : ℕ) (p : Planned) : Type 0 where
@@ -57,7 +58,13 @@ pub record Bounds (length t a : ℕ) (p : Planned) : Type 0 where
 abbrev comes : ℕ → Planned → List Tile
 comes a p = pieces (p .change .size) (p .change .corner) a (p .change .owner) (p .change .top - p .change .size) (p .change .first)
 
-module _ {n t : ℕ} {s : List ℕ} {c k a : ℕ} {p : Planned} (w : Known n t s c k a p) where
+module _ {scan : Scan} {s : List ℕ} {c k a : ℕ} {p : Planned} (w : Known scan s c k a p) where
+  abbrev n : ℕ
+  n = scan .order
+
+  abbrev t : ℕ
+  t = scan .tiles
+
   abbrev ts : List Tile
   ts = quadtree n (claimed (accountAt (tilesIn t s)) c k a)
 
@@ -91,14 +98,14 @@ module _ {n t : ℕ} {s : List ℕ} {c k a : ℕ} {p : Planned} (w : Known n t s
         fits = omega (arith, bounds .total, bounds .pieces);
       }
 
-  pub known-few : length s < p .tiles → claimRefusal n t s c k a ≡ slotsExceeded
-  known-few h = refusal-claimable n t s c k a (w .room) (w .claimable) ∙ must-off slotsExceeded accepted (test-leb (length ts) (length s)) (λ l. omega (arith, w .planned .tiles))
+  pub known-few : length s < p .tiles → claimRefusal scan s c k a ≡ slotsExceeded
+  known-few h = refusal-passed scan s c k a (w .passed) ∙ must-off slotsExceeded accepted (test-leb (length ts) (length s)) (λ l. omega (arith, w .planned .tiles))
 
-  pub known-fits : p .tiles ≤ length s → claimRefusal n t s c k a ≡ accepted
-  known-fits h = refusal-claimable n t s c k a (w .room) (w .claimable) ∙ must-on slotsExceeded accepted (test-leb (length ts) (length s)) (omega (arith, w .planned .tiles))
+  pub known-fits : p .tiles ≤ length s → claimRefusal scan s c k a ≡ accepted
+  known-fits h = refusal-passed scan s c k a (w .passed) ∙ must-on slotsExceeded accepted (test-leb (length ts) (length s)) (omega (arith, w .planned .tiles))
 
-  pub known-preview : p .tiles ≤ length s → _≡_ {A = Claimed} (record { number = accepted; tiles = p .tiles }) (previewOf n t s c k a)
-  known-preview h = rw (w .planned .tiles) (ap (λ (x : After Claimed). x .answer) (claimOf-done n t s c k a (known-fits h)) ∙ claim-answer n t s c k a)
+  pub known-preview : p .tiles ≤ length s → _≡_ {A = Claimed} (record { number = accepted; tiles = p .tiles }) (previewOf scan s c k a)
+  known-preview h = rw (w .planned .tiles) (ap (λ (x : After Claimed). x .answer) (claimOf-done scan s c k a (known-fits h)) ∙ claim-answer scan s c k a)
 
   levels : p .change .top ≡ p .change .size + (p .change .top - p .change .size)
   levels = omega (arith, w .planned .change .split .sizes)
@@ -130,6 +137,6 @@ module _ {n t : ℕ} {s : List ℕ} {c k a : ℕ} {p : Planned} (w : Known n t s
         ∙ sym words-are
 
     pub known-done : (r : List ℕ) → p .tiles ≤ length s → length y ≡ length s → r ≡ take (p .tiles) y ++ replicate (length y - p .tiles) 0 →
-        _≡_ {A = After Claimed} (record { answer = record { number = accepted; tiles = p .tiles }; storage = r }) (claimOf n t s c k a)
+        _≡_ {A = After Claimed} (record { answer = record { number = accepted; tiles = p .tiles }; storage = r }) (claimOf scan s c k a)
     unfolding filled
-    known-done r h ly er = rw (er, front, ly, w .planned .tiles) (claimOf-done n t s c k a (known-fits h))
+    known-done r h ly er = rw (er, front, ly, w .planned .tiles) (claimOf-done scan s c k a (known-fits h))

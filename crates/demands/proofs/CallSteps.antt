@@ -1,5 +1,6 @@
 -- One call: record and slots answer what the plain bed answers, and keep the bed that it leaves.
 --     Agrees m p q       the two steps answer alike, and the state kept is that of the bed left
+--     kept-opening       the opening checks of a state that keeps a bed: 22 alone can be met
 --     fresh-begins       an accepted fresh scan, whatever was there before
 --     read-begins        an accepted reading, whatever was there before
 --     step-agrees        any call on a state that keeps a bed
@@ -12,11 +13,11 @@ use native.Mathlib.Nat.{le-refl}
 use native.Mathlib.Omega.{arith}
 use lib.ListN.{length, replicate, length-map}
 use Rattle.basics.specs.Choice.{if}
-use Rattle.basics.proofs.Tests.{test, test-leb}
-use Rattle.refusal.specs.Refusal.{accepted, orderTooLarge, scannedTooLarge, tileUnscanned, blockInvalid}
-use Rattle.refusal.specs.Checks.{must, unless}
-use Rattle.refusal.proofs.CheckLaws.{must-on, must-off, must-inv, else-on}
-use Rattle.tile.specs.Tile.{Tile, tileOf, highestOrder, highestAccount}
+use Rattle.basics.proofs.Tests.{test-leb}
+use Rattle.refusal.specs.Refusal.{accepted, orderTooLarge, scannedTooLarge, tileUnscanned}
+use Rattle.refusal.specs.Checks.{must, orElse, unless}
+use Rattle.refusal.proofs.CheckLaws.{must-on, must-off, else-on, else-must}
+use Rattle.tile.specs.Tile.{Tile, tileOf, highestOrder}
 use Rattle.tile.specs.Slots.{filled}
 use Rattle.tile.proofs.SlotsLaws.{words-tiles}
 use Rattle.quadtree.specs.Raster.{accountAt}
@@ -29,8 +30,8 @@ use Rattle.bed.specs.declared.Kind.{Kind}
 use Rattle.bed.specs.declared.Kind.the-variants.{Rows}
 use Rattle.bed.specs.Places.{scanOf}
 use Rattle.bed.specs.Bed as bed
-use Rattle.bed.specs.Bed.{Bed, bedOf, freshBed, claimed, claimCheck, feedBed, feedPixels, hasUnscanned}
-use Rattle.bed.proofs.BedLaws.{Good, paint-agree, paint-accounts, claimCheck-agree, FedAlike, feedPixels-alike}
+use Rattle.bed.specs.Bed.{Bed, bedOf, shownBed, freshBed, claimed, claimCheck, claimBedCheck, feedBed, feedPixels, hasUnscanned}
+use Rattle.bed.proofs.BedLaws.{Good, paint-agree, paint-accounts, claimCheck-agree, claim-passed, FedAlike, feedPixels-alike}
 use Rattle.scan.specs.FreshScan.{freshOf}
 use Rattle.scan_check.specs.Opening.{opening}
 use Rattle.scan.specs.Feed.{fedTo, feedOf}
@@ -66,46 +67,45 @@ fresh-refused : (m : ℕ) (s : State) (b : Bed) (k : Kind) (n : ℕ) → Kept m 
 unfolding step plainStep afterFresh freshOf unless
 fresh-refused m s b k n w h = rw (must-off orderTooLarge accepted (test-leb n highestOrder) h) (record { answer = refl; kept = w })
 
+-- the opening checks of a state that keeps a bed
+pub kept-opening : {m : ℕ} (b : Bed) → Good m (b .order) (b .scanned) (b .account) → opening (keptBy m b .scan) (keptBy m b .slots) ≡ must (not (hasUnscanned b)) tileUnscanned accepted
+unfolding opening
+kept-opening {m} b w =
+    else-on _ _ (kept-check b w)
+    ∙ must-on scannedTooLarge _ (test-leb (b .scanned) (4 ^ b .order)) (w .scanned)
+    ∙ rw (kept-list b w, unscanned-alike (b .kind) (b .order) (b .scanned) (keptBy m b .scan .tiles) (b .account))
+
 -- claims
 module _ (m : ℕ) (b : Bed) (w : Good m (b .order) (b .scanned) (b .account)) (c k a : ℕ) where
-  shown : ℕ → ℕ
-  shown = accountAt (listIn (keptBy m b))
+  shown : Bed
+  shown = shownBed (keptBy m b .scan) (keptBy m b .slots)
 
-  claim-number : claimRefusal (b .order) (keptBy m b .scan .tiles) (keptBy m b .slots) c k a ≡ claimCheck m (b .order) (b .account) c k a
-  unfolding claimRefusal shown
-  claim-number =
-      else-on _ _ (kept-check b w)
-      ∙ ap (λ (l : ℕ). claimCheck l (b .order) shown c k a) (kept-length b w)
-      ∙ claimCheck-agree m (b .order) shown (b .account) c k a (kept-shown b w)
+  claim-asked : claimCheck (length (keptBy m b .slots)) shown c k a ≡ claimCheck m b c k a
+  unfolding shown
+  claim-asked = ap (λ (l : ℕ). claimCheck l shown c k a) (kept-length b w) ∙ claimCheck-agree m (b .kind) (b .order) (b .scanned) (accountAt (listIn (keptBy m b))) (b .account) c k a (kept-shown b w)
+
+  claim-number : claimRefusal (keptBy m b .scan) (keptBy m b .slots) c k a ≡ claimBedCheck m b c k a
+  unfolding claimRefusal claimBedCheck shown orElse
+  claim-number = ap (λ (x : ℕ). orElse x (claimCheck (length (keptBy m b .slots)) shown c k a)) (kept-opening b w) ∙ else-must (not (hasUnscanned b)) tileUnscanned accepted _ (omega arith) claim-asked
 
   claim-list : quadtree (b .order) (claimed (accountAt (listIn (keptBy m b))) c k a) ≡ quadtree (b .order) (claimed (b .account) c k a)
   claim-list = quadtree-cong (b .order) _ _ (paint-agree (b .order) c (c + 4 ^ k) a (kept-shown b w))
 
-  claim-good : claimCheck m (b .order) (b .account) c k a ≡ accepted → Good m (b .order) (b .scanned) (claimed (b .account) c k a)
-  unfolding claimCheck
+  claim-good : claimBedCheck m b c k a ≡ accepted → Good m (b .order) (b .scanned) (claimed (b .account) c k a)
   claim-good e =
-      let p = must-inv {r = blockInvalid} (test _ (λ t. t) (λ t. t)) (omega arith) e in
-      let q = must-inv (test-leb a highestAccount) (omega arith) (p .1) in
-      let r = must-inv (test-leb (length (quadtree (b .order) (claimed (b .account) c k a))) m) (omega arith) (q .1) in
-      record { order = w .order; scanned = w .scanned; accounts = paint-accounts (b .order) c (c + 4 ^ k) a (q .0) (w .accounts); room = r .0 }
+      let p = claim-passed m b c k a e in
+      record { order = w .order; scanned = w .scanned; accounts = paint-accounts (b .order) c (c + 4 ^ k) a (p .low) (w .accounts); room = p .room }
 
-  claim-agrees-by : (r : ℕ) → claimCheck m (b .order) (b .account) c k a ≡ r → Agrees m (step (keptBy m b) (claim c k a)) (plainStep m b (claim c k a))
+  claim-agrees-by : (r : ℕ) → claimBedCheck m b c k a ≡ r → Agrees m (step (keptBy m b) (claim c k a)) (plainStep m b (claim c k a))
   unfolding step plainStep afterClaim claimOf unless
   claim-agrees-by zero e = rw (claim-number, e, claim-list, kept-length b w) (record { answer = refl; kept = record { is = refl; good = claim-good e } })
   claim-agrees-by (suc r) e = rw (claim-number, e) (record { answer = refl; kept = record { is = refl; good = w } })
 
   pub claim-agrees : Agrees m (step (keptBy m b) (claim c k a)) (plainStep m b (claim c k a))
-  claim-agrees = claim-agrees-by (claimCheck m (b .order) (b .account) c k a) refl
+  claim-agrees = claim-agrees-by (claimBedCheck m b c k a) refl
 
 -- feeds
 module _ (m : ℕ) (b : Bed) (w : Good m (b .order) (b .scanned) (b .account)) (bytes : List ℕ) where
-  feed-opening : opening (keptBy m b .scan) (keptBy m b .slots) ≡ must (not (hasUnscanned b)) tileUnscanned accepted
-  unfolding opening
-  feed-opening =
-      else-on _ _ (kept-check b w)
-      ∙ must-on scannedTooLarge _ (test-leb (b .scanned) (4 ^ b .order)) (w .scanned)
-      ∙ rw (kept-list b w, unscanned-alike (b .kind) (b .order) (b .scanned) (keptBy m b .scan .tiles) (b .account))
-
   -- the feed of the bed that the list shows, and that of the bed
   fed-alike : FedAlike m (b .kind) (b .order) (feedPixels m 0 (bedOf (b .kind) (b .order) (b .scanned) (accountAt (listIn (keptBy m b)))) bytes) (feedPixels m 0 b bytes)
   fed-alike = feedPixels-alike m (b .kind) (b .order) 0 (b .scanned) (accountAt (listIn (keptBy m b))) (b .account) bytes (kept-shown b w) w
@@ -125,8 +125,8 @@ module _ (m : ℕ) (b : Bed) (w : Good m (b .order) (b .scanned) (b .account)) (
 
   feed-agrees-by : (x : Bool) → hasUnscanned b ≡ x → Agrees m (step (keptBy m b) (feed bytes)) (plainStep m b (feed bytes))
   unfolding step plainStep feedOf feedBed unless must if afterFeed
-  feed-agrees-by true e = rw (feed-opening, e) (record { answer = refl; kept = record { is = refl; good = w } })
-  feed-agrees-by false e = rw (feed-opening, e, kept-length b w) (fed-kept fed-alike)
+  feed-agrees-by true e = rw (kept-opening b w, e) (record { answer = refl; kept = record { is = refl; good = w } })
+  feed-agrees-by false e = rw (kept-opening b w, e, kept-length b w) (fed-kept fed-alike)
 
   pub feed-agrees : Agrees m (step (keptBy m b) (feed bytes)) (plainStep m b (feed bytes))
   feed-agrees = feed-agrees-by (hasUnscanned b) refl

@@ -20,7 +20,7 @@ use Rattle.bed.specs.declared.Kind.the-variants.{Rows}
 use Rattle.bed.specs.declared.Scan.{Scan}
 use Rattle.bed.specs.Places.{scanOf}
 use Rattle.bed.specs.Bed as bed
-use Rattle.bed.specs.Bed.{Bed, bedOf, freshBed, feedBed, claimCheck, claimed}
+use Rattle.bed.specs.Bed.{Bed, bedOf, freshBed, feedBed, claimed, claimBedCheck}
 use Rattle.scan.specs.declared.Fresh.{Fresh}
 use Rattle.scan.specs.declared.Fed.{Fed}
 use Rattle.scan.specs.FreshScan.{freshOf}
@@ -87,7 +87,7 @@ afterRead c r = record {
 unfoldable pub step : State → Call → Step
 step s (fresh k n) = afterFresh (s .scan) (freshOf k n (s .slots))
 step s (feed bytes) = afterFeed (feedOf (s .scan) (s .slots) bytes)
-step s (claim c k a) = afterClaim (s .scan) (claimOf (s .scan .order) (s .scan .tiles) (s .slots) c k a)
+step s (claim c k a) = afterClaim (s .scan) (claimOf (s .scan) (s .slots) c k a)
 step s (read bytes) = afterRead (s .scan) (readOf bytes (s .slots))
 
 unfoldable pub answers : State → List Call → List Answer
@@ -115,7 +115,7 @@ claimedBed b c k a = bedOf (b .kind) (b .order) (b .scanned) (claimed (b .accoun
 unfoldable pub plainStep : ℕ → Bed → Call → PlainStep
 plainStep m b (fresh k n) = plainly b (must (leb n highestOrder) orderTooLarge accepted) (freshBed k n)
 plainStep m b (feed bytes) = plainFed (feedBed m b bytes)
-plainStep m b (claim c k a) = plainly b (claimCheck m (b .order) (b .account) c k a) (claimedBed b c k a)
+plainStep m b (claim c k a) = plainly b (claimBedCheck m b c k a) (claimedBed b c k a)
 plainStep m b (read bytes) = plainly b (fileCheck m bytes) (readBed bytes)
 
 unfoldable pub plainAnswers : ℕ → Bed → List Call → List Answer

@@ -4,12 +4,13 @@
 --                                    pixels, decodes to
 --                               them, and counts them, as the feeds' answers do
 --     Demand3 ..                two lists of calls, each taken whole
+--     NoneUnscanned             a corollary: in such a list 22 is met by no call
 use mathlib.Core.Path.{_≡_}
-use mathlib.Core.List.{List, [], _∷_, _++_}
+use mathlib.Core.List.{List, [], _∷_, _++_, List·Memᴰ}
 use mathlib.Core.Logic.{_↔_}
 use Prim.Native.Nat.{ℕ, _+_, _-_, _^_, _≤_, _<_}
 use lib.ListN.{length, take, drop, getD, replicate}
-use Rattle.refusal.specs.Refusal.{accepted}
+use Rattle.refusal.specs.Refusal.{accepted, tileUnscanned}
 use Rattle.tile.specs.Tile.{Tile, highestOrder}
 use Rattle.tile.specs.Slots.{tilesIn}
 use Rattle.quadtree.specs.Raster.{Shows}
@@ -17,9 +18,11 @@ use Rattle.quadtree.specs.Quadtree.{LinearQuadtree}
 use Rattle.bed.specs.declared.Kind.{Kind}
 use Rattle.bed.specs.Places.{placeOf, rows}
 use Rattle.bed.specs.Bed.{Bed, bedOf}
+use Rattle.scan_check.specs.Opening.{opening}
 use Rattle.decode.specs.Decode.{decodeOf}
 use Rattle.scan.specs.FreshScan.{freshOf}
-use Rattle.demands.specs.Calls.{Call, feed, State, Step, step, answers, left, plainAnswers, plainLeft, Begins}
+use Rattle.demands.specs.Calls.{Call, feed, Answer, State, Step, step, answers, left}
+use Rattle.demands.specs.Calls.{plainAnswers, plainLeft, Begins}
 
 -- the tile list in use
 abbrev pub listIn : State → List Tile
@@ -99,3 +102,10 @@ pub record Demand3 (s₁ s₂ : State) (b₁ b₂ : Bed) (cs₁ cs₂ : List Cal
 unfoldable pub DemandThree : Type 0
 DemandThree = (s₁ s₂ : State) (b₁ b₂ : Bed) (c₁ c₂ : Call) (cs₁ cs₂ : List Call) →
     Begins (length (s₁ .slots)) c₁ → Begins (length (s₂ .slots)) c₂ → Demand3 s₁ s₂ b₁ b₂ (c₁ ∷ cs₁) (c₂ ∷ cs₂)
+
+-- a corollary (document 02, request 5): since no claim reaches an unscanned pixel, 22 is met by no call of such a list,
+-- and what it leaves passes the opening checks
+unfoldable pub NoneUnscanned : Type 0
+NoneUnscanned = (s : State) (c : Call) (cs : List Call) → Begins (length (s .slots)) c →
+    ((a : Answer) → List·Memᴰ a (answers s (c ∷ cs)) → a .number ≡ tileUnscanned → ⊥)
+    × (opening (left s (c ∷ cs) .scan) (left s (c ∷ cs) .slots) ≡ accepted)

@@ -68,6 +68,17 @@ fn kind_of(kind: u32) -> Kind
     Kind::Morton
 }
 
+fn scan_of(kind: u32, order: u32, pixels: u32, tiles: usize) -> Scan
+    ensures { λ r. ⌜ r ≡ scanOf (kindOf kind) order pixels tiles ⌝ }
+{
+    Scan {
+        kind: kind_of(kind),
+        order,
+        pixels,
+        tiles,
+    }
+}
+
 fn kind_number(kind: Kind) -> u32
     ensures { λ r. ⌜ r ≡ kindNumber kind ⌝ }
 {
@@ -198,10 +209,19 @@ pub extern "C" fn kb_decode(order: u32, tiles: usize, slots: &[u32], raster: &mu
 }
 
 #[no_mangle]
-pub extern "C" fn kb_lookup(order: u32, tiles: usize, slots: &[u32], column: u32, row: u32) -> Found
-    ensures { λ r. ⌜ r ≡ lookupOf order tiles (now (slots .entry)) column row ⌝ }
+pub extern "C" fn kb_lookup(
+    kind: u32,
+    order: u32,
+    pixels: u32,
+    tiles: usize,
+    slots: &[u32],
+    column: u32,
+    row: u32,
+) -> Found
+    ensures { λ r. ⌜ r ≡ lookupOf (scanOf (kindOf kind) order pixels tiles) (now (slots .entry)) column row ⌝ }
 {
-    lookup::lookup(order, tiles, slots, column, row)
+    let scan = scan_of(kind, order, pixels, tiles);
+    lookup::lookup(scan, slots, column, row)
 }
 
 #[no_mangle]
@@ -213,44 +233,55 @@ pub extern "C" fn kb_part(order: u32, tiles: usize, slots: &[u32], corner: u32, 
 
 #[no_mangle]
 pub extern "C" fn kb_rights(
+    kind: u32,
     order: u32,
+    pixels: u32,
     tiles: usize,
     slots: &[u32],
     column: u32,
     row: u32,
     account: u8,
 ) -> Right
-    ensures { λ r. ⌜ r ≡ rightsOf order tiles (now (slots .entry)) column row account ⌝ }
+    ensures { λ r. ⌜ r ≡ rightsOf (scanOf (kindOf kind) order pixels tiles) (now (slots .entry)) column row account ⌝ }
 {
-    rights::rights(order, tiles, slots, column, row, account)
+    let scan = scan_of(kind, order, pixels, tiles);
+    rights::rights(scan, slots, column, row, account)
 }
 
 #[no_mangle]
 pub extern "C" fn kb_claim(
+    kind: u32,
     order: u32,
+    pixels: u32,
     tiles: usize,
     slots: &mut [u32],
     corner: u32,
     size: u32,
     account: u8,
 ) -> Claimed
-    ensures { λ r. ⌜ Gives r (now (slots .exit)) (claimOf order tiles (now (slots .entry)) corner size account) ⌝ }
+    ensures { λ r. ⌜ Gives r (now (slots .exit))
+        (claimOf (scanOf (kindOf kind) order pixels tiles) (now (slots .entry)) corner size account) ⌝ }
 {
-    claim::claim(order, tiles, slots, corner, size, account)
+    let scan = scan_of(kind, order, pixels, tiles);
+    claim::claim(scan, slots, corner, size, account)
 }
 
 #[no_mangle]
 pub extern "C" fn kb_preview(
+    kind: u32,
     order: u32,
+    pixels: u32,
     tiles: usize,
     slots: &[u32],
     corner: u32,
     size: u32,
     account: u8,
 ) -> Claimed
-    ensures { λ r. ⌜ r ≡ previewOf order tiles (now (slots .entry)) corner size account ⌝ }
+    ensures { λ r. ⌜ r ≡ previewOf (scanOf (kindOf kind) order pixels tiles) (now (slots .entry))
+        corner size account ⌝ }
 {
-    claim::preview(order, tiles, slots, corner, size, account)
+    let scan = scan_of(kind, order, pixels, tiles);
+    claim::preview(scan, slots, corner, size, account)
 }
 
 #[no_mangle]
@@ -272,10 +303,19 @@ pub extern "C" fn kb_combine(
 }
 
 #[no_mangle]
-pub extern "C" fn kb_write(order: u32, tiles: usize, slots: &[u32], file: &mut [u8]) -> Written
-    ensures { λ r. ⌜ Gives r (now (file .exit)) (writeOf order tiles (now (slots .entry)) (now (file .entry))) ⌝ }
+pub extern "C" fn kb_write(
+    kind: u32,
+    order: u32,
+    pixels: u32,
+    tiles: usize,
+    slots: &[u32],
+    file: &mut [u8],
+) -> Written
+    ensures { λ r. ⌜ Gives r (now (file .exit))
+        (writeOf (scanOf (kindOf kind) order pixels tiles) (now (slots .entry)) (now (file .entry))) ⌝ }
 {
-    mapfile_write::write(order, tiles, slots, file)
+    let scan = scan_of(kind, order, pixels, tiles);
+    mapfile_write::write(scan, slots, file)
 }
 
 #[no_mangle]

@@ -1,18 +1,19 @@
 -- What the answer is good for.
---     lookup-names     `LookupNames`: the largest uniform block with the pixel, whoever has it, and no other
---     lookup-bed       `LookupBed`: the same of the bed whose map it is
+--     lookup-names     `LookupNames`: the largest scanned block with the pixel that has one account, and no other
+--     lookup-bed       `LookupBed`: the same of the bed whose map it is, and 52
 --     lookup-tile      `LookupTile`: for somebody's pixel a tile of the list
 --     lookup-alike     `LookupAlike`: just the pixels of the block named look up to the same answer
---     lookup-whole     `LookupWhole`: one lookup at any of its pixels tells whether a block has one account
+--     lookup-whole     `LookupWhole`: one lookup at any of its pixels tells whether a block is scanned and has one account
+--     lookup-last      `LookupLast`: one lookup at its last pixel tells whether a block is scanned
 --     lookup-account   past the checks the account is that of the list
 use mathlib.Core.Path.{_≡_, refl, ap, sym, _∙_}
 use mathlib.Core.List.{List}
-use Prim.Native.Nat.{ℕ, _+_, _^_, _≤_, _<_}
+use Prim.Native.Nat.{ℕ, _+_, _-_, _^_, _≤_, _<_}
 use native.Mathlib.Decide.{decLt}
 use native.Mathlib.Omega.{arith}
 use lib.ListN.{length}
-use Rattle.refusal.specs.Refusal.{accepted}
-use Rattle.refusal.proofs.CheckLaws.{else-inv, else-on, by-unless}
+use Rattle.refusal.specs.Refusal.{accepted, unscanned}
+use Rattle.refusal.proofs.CheckLaws.{else-inv, by-unless}
 use Rattle.morton.specs.Morton.{morton, Square}
 use Rattle.morton.proofs.MortonLaws.{morton-lt}
 use Rattle.morton.proofs.Squares.{square-bed, number-square, square-number}
@@ -21,44 +22,72 @@ use Rattle.tile.specs.Slots.{tilesIn, filled}
 use Rattle.tile.proofs.SlotsLaws.{tilesIn-filled}
 use Rattle.quadtree.specs.Raster.{Aligned, Uniform, accountAt, _∈_}
 use Rattle.quadtree.specs.Quadtree.{quadtree}
-use Rattle.quadtree.proofs.Alignment.{aligned-nest}
+use Rattle.quadtree.proofs.Alignment.{area-pos, aligned-room, aligned-nest}
 use Rattle.quadtree.proofs.ValidLaws.{quadtree-valid, quadtree-shown}
 use Rattle.quadtree.proofs.Linear.{quadtree-largest, quadtree-low}
-use Rattle.list_check.specs.ListCheck.{listCheck}
 use Rattle.list_check.proofs.Accepts.{listCheck-filled}
-use Rattle.checks.proofs.AskedLaws.{point-inside, block-passed}
+use Rattle.bed.specs.declared.Scan.{Scan}
+use Rattle.bed.specs.Places.{scanOf, placeOf}
+use Rattle.bed.specs.Bed.{Bed, shownBed}
+use Rattle.bed.proofs.ScannedBlocks.{place-upto}
+use Rattle.checks.proofs.AskedLaws.{block-passed}
+use Rattle.scan_check.specs.Opening.{opening}
+use Rattle.scan_check.specs.Opened.{Opened}
+use Rattle.scan_check.proofs.ScannedLaws.{pixel-unscanned, pixel-scanned}
+use Rattle.scan_check.proofs.Opening.{opened-opening}
 use Rattle.lookup.specs.declared.Found.{Found}
-use Rattle.lookup.specs.Block.{blockAt, Names}
+use Rattle.lookup.specs.Block.{blockAt, WhollyScanned, Names}
 use Rattle.lookup.specs.Lookup.{lookupCheck, foundOf, lookupOf}
-use Rattle.lookup.specs.Promises.{blockOf, LookupNames, LookupBed, LookupTile, LookupAlike, LookupWhole}
-use Rattle.lookup.proofs.BlockLaws.{names-same, names-moves, names-cong, blockAt-names, blockAt-tile, blockAt-account}
-use Rattle.lookup.proofs.LookupLaws.{lookupCheck-passed, lookupOf-number, lookupOf-block}
+use Rattle.lookup.specs.Promises.{blockOf, LookupNames, LookupBed, LookupTile, LookupAlike, LookupWhole, LookupLast}
+use Rattle.lookup.proofs.BlockLaws.{names-same, names-moves, names-cong, blockAt-tile, blockAt-account}
+use Rattle.lookup.proofs.LookupLaws.{Point, lookupCheck-passed, lookupCheck-last, point-names, lookupOf-number, lookupOf-block}
 
 pub lookup-names : LookupNames
 unfolding LookupNames
-lookup-names n t slots c r e =
-    let p = sym (lookupOf-number n t slots c r) ∙ e in
-    let b = blockAt-names (lookupCheck-passed n t slots c r p .valid) (morton n c r) (morton-lt n c r) in
-    rw (lookupOf-block n t slots c r p) (b, λ d q. names-same q b)
+lookup-names scan slots c r e =
+    let p = sym (lookupOf-number scan slots c r) ∙ e in
+    let b = point-names scan slots c r (lookupCheck-passed scan slots c r p) in
+    rw (lookupOf-block scan slots c r p) (b, λ d q. names-same q b)
+
+-- past the opening checks and 31, the number by the pixel's place
+module _ (scan : Scan) (slots : List ℕ) (c r : ℕ) (e : opening scan slots ≡ accepted) (h : c < 2 ^ scan .order) (l : r < 2 ^ scan .order) where
+  abbrev place : ℕ
+  place = placeOf (scan .kind) (scan .order) (morton (scan .order) c r)
+
+  point-accepted : place < scan .pixels → lookupCheck scan slots c r ≡ accepted
+  point-accepted g = lookupCheck-last scan slots c r e h l ∙ sym (pixel-scanned scan (morton (scan .order) c r) g)
+
+  point-refused : scan .pixels ≤ place → lookupOf scan slots c r .number ≡ unscanned
+  point-refused g = lookupOf-number scan slots c r ∙ lookupCheck-last scan slots c r e h l ∙ sym (pixel-unscanned scan (morton (scan .order) c r) g)
 
 pub lookup-bed : LookupBed
-unfolding LookupBed lookupCheck
-lookup-bed n m f c r o low room h g =
+unfolding LookupBed
+lookup-bed m b c r o s low blank room h g =
+    let n = b .order in
+    let f = b .account in
     let ts = quadtree n f in
+    let scan = scanOf (b .kind) n (b .scanned) (length ts) in
     let accounts = quadtree-low n f highestAccount low in
-    let on = else-on _ _ (listCheck-filled n m ts o room accounts (quadtree-valid n f)) ∙ sym (point-inside n c r (h, g)) in
     let shown = tilesIn-filled m ts (λ t i. record { size = omega (arith, quadtree-largest n f i .quadrant .fits); account = accounts t i }) in
-    let z = morton-lt n c r in
-    rw (lookupOf-block n (length ts) (filled m ts) c r on, shown) (refl, names-cong (quadtree-shown n f) z (blockAt-names (quadtree-valid n f) (morton n c r) z))
+    let e = opened-opening scan (filled m ts) (listCheck-filled n m ts o room accounts (quadtree-valid n f)) s (λ z l p. rw shown (quadtree-shown n f z l ∙ blank z l p)) in
+    let z = morton-lt n c r in (
+      λ p.
+          let on = point-accepted scan (filled m ts) c r e h g p in
+          let named = point-names scan (filled m ts) c r (lookupCheck-passed scan (filled m ts) c r on) in
+          rw (lookupOf-block scan (filled m ts) c r on) (refl, names-cong (λ y l. rw shown (quadtree-shown n f y l)) z named),
+      point-refused scan (filled m ts) c r e h g,
+    )
 
 pub lookup-tile : LookupTile
 unfolding LookupTile lookupOf
-lookup-tile n t slots c r =
-    by-unless (λ (a : Found). 0 < a .account → blockOf a ∈ tilesIn t slots) (lookupCheck n t slots c r) (λ x h. absurd (omega arith))
-    (λ e. blockAt-tile n (tilesIn t slots) (morton n c r))
+lookup-tile scan slots c r =
+    by-unless (λ (a : Found). 0 < a .account → blockOf a ∈ tilesIn (scan .tiles) slots) (lookupCheck scan slots c r) (λ x h. absurd (omega arith))
+    (λ e. blockAt-tile (shownBed scan slots) (tilesIn (scan .tiles) slots) (morton (scan .order) c r))
 
-pub lookup-account : (n t : ℕ) (slots : List ℕ) (c r : ℕ) → lookupCheck n t slots c r ≡ accepted → lookupOf n t slots c r .account ≡ accountAt (tilesIn t slots) (morton n c r)
-lookup-account n t slots c r e = rw (lookupOf-block n t slots c r e) (blockAt-account (lookupCheck-passed n t slots c r e .valid) (morton n c r) (morton-lt n c r))
+pub lookup-account : (scan : Scan) (slots : List ℕ) (c r : ℕ) → lookupCheck scan slots c r ≡ accepted → lookupOf scan slots c r .account ≡ accountAt (tilesIn (scan .tiles) slots) (morton (scan .order) c r)
+lookup-account scan slots c r e =
+    let p = lookupCheck-passed scan slots c r e in
+    rw (lookupOf-block scan slots c r e) (blockAt-account (scan .kind) (scan .order) (scan .pixels) (tilesIn (scan .tiles) slots) (p .opened .valid) (p .opened .blank) (morton (scan .order) c r) (morton-lt (scan .order) c r) (p .scanned))
 
 -- a block of the bed has a pixel just where the pixel's column and row lie in the block's square
 module _ {n d k : ℕ} (h : k ≤ n) (m : Aligned k d) (c r : ℕ) where
@@ -68,64 +97,87 @@ module _ {n d k : ℕ} (h : k ≤ n) (m : Aligned k d) (c r : ℕ) where
   square-has : d < 4 ^ n → Square n k d c r → (d ≤ morton n c r) × (morton n c r < d + 4 ^ k)
   square-has l s = let q = square-number n k (m .times) c r h (omega (arith, m .is)) (rw (m .is) at s) in (omega (arith, m .is, q .0), omega (arith, m .is, q .1))
 
-  -- past the list's checks it passes 31 too
-  square-passes : (t : ℕ) (slots : List ℕ) → listCheck n t slots ≡ accepted → Square n k d c r → lookupCheck n t slots c r ≡ accepted
-  unfolding lookupCheck
-  square-passes t slots e s = else-on _ _ e ∙ sym (point-inside n c r (square-bed n k (m .times) c r h (rw (m .is) at s)))
+  square-in : Square n k d c r → (c < 2 ^ n) × (r < 2 ^ n)
+  square-in s = square-bed n k (m .times) c r h (rw (m .is) at s)
 
-module _ (n t : ℕ) (slots : List ℕ) (c r : ℕ) (e : lookupOf n t slots c r .number ≡ accepted) where
+module _ (scan : Scan) (slots : List ℕ) (c r : ℕ) (e : lookupOf scan slots c r .number ≡ accepted) where
+  abbrev n : ℕ
+  n = scan .order
+
   abbrev block : Tile
-  block = blockAt n (tilesIn t slots) (morton n c r)
+  block = blockAt (shownBed scan slots) (tilesIn (scan .tiles) slots) (morton n c r)
 
-  passed : lookupCheck n t slots c r ≡ accepted
-  passed = sym (lookupOf-number n t slots c r) ∙ e
+  passed : lookupCheck scan slots c r ≡ accepted
+  passed = sym (lookupOf-number scan slots c r) ∙ e
 
-  named : Names n (accountAt (tilesIn t slots)) (morton n c r) block
-  named = blockAt-names (lookupCheck-passed n t slots c r passed .valid) (morton n c r) (morton-lt n c r)
+  named : Names (shownBed scan slots) (morton n c r) block
+  named = point-names scan slots c r (lookupCheck-passed scan slots c r passed)
 
   module _ (c′ r′ : ℕ) where
-    alike-square : lookupOf n t slots c′ r′ ≡ foundOf block → Square n (block .size) (block .corner) c′ r′
+    alike-square : lookupOf scan slots c′ r′ ≡ foundOf block → Square n (block .size) (block .corner) c′ r′
     alike-square h =
-        let g = sym (lookupOf-number n t slots c′ r′) ∙ ap (λ (a : Found). a .number) h in
-        let p = lookupCheck-passed n t slots c′ r′ g in
-        let s = ap blockOf (sym (lookupOf-block n t slots c′ r′ g) ∙ h) in
-        let v = rw s at (blockAt-names (p .valid) (morton n c′ r′) (morton-lt n c′ r′) .has) in
+        let g = sym (lookupOf-number scan slots c′ r′) ∙ ap (λ (a : Found). a .number) h in
+        let p = lookupCheck-passed scan slots c′ r′ g in
+        let s = ap blockOf (sym (lookupOf-block scan slots c′ r′ g) ∙ h) in
+        let v = rw s at (point-names scan slots c′ r′ p .has) in
         has-square (named .fits) (named .aligned) c′ r′ (p .column) (p .row) (v .0) (v .1)
 
-    square-alike : Square n (block .size) (block .corner) c′ r′ → lookupOf n t slots c′ r′ ≡ foundOf block
+    square-alike : Square n (block .size) (block .corner) c′ r′ → lookupOf scan slots c′ r′ ≡ foundOf block
     unfolding lookupCheck
     square-alike s =
-        let y = morton n c′ r′ in
-        let p = lookupCheck-passed n t slots c r passed in
         let v = square-has (named .fits) (named .aligned) c′ r′ (named .inside) s in
-        let b = square-passes (named .fits) (named .aligned) c′ r′ t slots (else-inv _ _ passed .0) s in
-        lookupOf-block n t slots c′ r′ b ∙ ap foundOf (names-same (blockAt-names (p .valid) y (morton-lt n c′ r′)) (names-moves named y v))
+        let i = square-in (named .fits) (named .aligned) c′ r′ s in
+        let b = point-accepted scan slots c′ r′ (else-inv _ _ passed .0) (i .0) (i .1) (named .scanned (morton n c′ r′) (v .0) (v .1)) in
+        lookupOf-block scan slots c′ r′ b ∙ ap foundOf (names-same (point-names scan slots c′ r′ (lookupCheck-passed scan slots c′ r′ b)) (names-moves named (morton n c′ r′) v))
 
 pub lookup-alike : LookupAlike
 unfolding LookupAlike
-lookup-alike n t slots c r c′ r′ e = rw (lookupOf-block n t slots c r (passed n t slots c r e)) (alike-square n t slots c r e c′ r′, square-alike n t slots c r e c′ r′)
+lookup-alike scan slots c r c′ r′ e = rw (lookupOf-block scan slots c r (passed scan slots c r e)) (alike-square scan slots c r e c′ r′, square-alike scan slots c r e c′ r′)
 
 -- the block named at a pixel of a block, and that block
-module _ {n : ℕ} {f : ℕ → ℕ} {z : ℕ} {b : Tile} (p : Names n f z b) (d k a : ℕ) (h : k ≤ n) (m : Aligned k d) (low : d ≤ z) (high : z < d + 4 ^ k) where
-  whole-named : Uniform f a d (d + 4 ^ k) → (k ≤ b .size) × (b .account ≡ a)
-  whole-named u = (large, account)
+module _ {b : Bed} {z : ℕ} {t : Tile} (p : Names b z t) (d k a : ℕ) (h : k ≤ b .order) (m : Aligned k d) (low : d ≤ z) (high : z < d + 4 ^ k) where
+  whole-named : WhollyScanned b d (d + 4 ^ k) → Uniform (b .account) a d (d + 4 ^ k) → (k ≤ t .size) × (t .account ≡ a)
+  whole-named s u = (large, account)
     where
-      account : b .account ≡ a
+      account : t .account ≡ a
       account = sym (p .uniform z (p .has .0) (p .has .1)) ∙ u z low high
 
-      large : k ≤ b .size
-      large = elim (decLt (b .size) k) [ yes l ↦ absurd (p .top k d l h m low high (λ y q g. u y q g ∙ sym account)) | no l ↦ omega arith ]
+      large : k ≤ t .size
+      large = elim (decLt (t .size) k) [ yes l ↦ absurd (p .top k d l h m low high s (λ y q g. u y q g ∙ sym account)) | no l ↦ omega arith ]
 
-  named-whole : (k ≤ b .size) × (b .account ≡ a) → Uniform f a d (d + 4 ^ k)
-  named-whole e y l g =
-      let o = aligned-nest {j = k} {k = b .size} {x = d} {c = b .corner} (e .0) m (p .aligned) (omega (arith, p .has .0)) (omega (arith, p .has .1)) in
-      p .uniform y (omega (arith, o .0)) (omega (arith, o .1)) ∙ e .1
+  named-whole : (k ≤ t .size) × (t .account ≡ a) → WhollyScanned b d (d + 4 ^ k) × Uniform (b .account) a d (d + 4 ^ k)
+  named-whole e =
+      let o = aligned-nest {j = k} {k = t .size} {x = d} {c = t .corner} (e .0) m (p .aligned) (omega (arith, p .has .0)) (omega (arith, p .has .1)) in
+      (λ y l g. p .scanned y (omega (arith, o .0)) (omega (arith, o .1)), λ y l g. p .uniform y (omega (arith, o .0)) (omega (arith, o .1)) ∙ e .1)
 
 pub lookup-whole : LookupWhole
 unfolding LookupWhole
-lookup-whole n t slots d k a c r e b s =
-    let q = block-passed n d k b in
-    let on = square-passes (q .0) (q .1 .1) c r t slots e s in
+lookup-whole scan slots d k a c r e b s =
+    let q = block-passed (scan .order) d k b in
+    let i = square-in (q .0) (q .1 .1) c r s in
     let v = square-has (q .0) (q .1 .1) c r (q .1 .0) s in
-    let p = blockAt-names (lookupCheck-passed n t slots c r on .valid) (morton n c r) (morton-lt n c r) in
-    rw (lookupOf-block n t slots c r on) (refl, (whole-named p d k a (q .0) (q .1 .1) (v .0) (v .1), named-whole p d k a (q .0) (q .1 .1) (v .0) (v .1)))
+    let z = morton (scan .order) c r in (
+      λ w.
+          let on = point-accepted scan slots c r e (i .0) (i .1) (w .0 z (v .0) (v .1)) in
+          let p = point-names scan slots c r (lookupCheck-passed scan slots c r on) in
+          rw (lookupOf-block scan slots c r on) (refl, whole-named p d k a (q .0) (q .1 .1) (v .0) (v .1) (w .0) (w .1)),
+      λ w.
+          let on = sym (lookupOf-number scan slots c r) ∙ w .0 in
+          let p = point-names scan slots c r (lookupCheck-passed scan slots c r on) in
+          named-whole p d k a (q .0) (q .1 .1) (v .0) (v .1) (rw (lookupOf-block scan slots c r on) at (w .1)),
+    )
+
+pub lookup-last : LookupLast
+unfolding LookupLast
+lookup-last scan slots d k c r e b h l last =
+    let q = block-passed (scan .order) d k b in
+    let z = morton (scan .order) c r in
+    let pos = area-pos k in
+    let is : d + 4 ^ k - 1 ≡ z = omega arith in
+    let upto = rw is at (place-upto (scan .kind) (scan .order) (scan .pixels) d k (q .1 .1) (aligned-room (q .0) (q .1 .1) (q .1 .0))) in (
+      λ w. lookupOf-number scan slots c r ∙ point-accepted scan slots c r e h l (w z (omega arith) (omega arith)),
+      λ w. elim (decLt (placeOf (scan .kind) (scan .order) z) (scan .pixels)) [
+        | yes g ↦ absurd (w (λ y i j. omega (arith, upto y i j)))
+        | no g ↦ point-refused scan slots c r e h l (omega arith)
+      ],
+    )

@@ -4,7 +4,8 @@
 --     accountAt-shownBy        where i tiles start by z, that is the account of the list
 --     Stretch f end lo hi z    z lies in the free stretch from lo up to hi: a run of nobody's from its first number on
 --     largest-first, -ahead, -behind   the largest block in a stretch, short of what lies on either side
---     stretch-names            the largest block in it that has z is the one named
+--     pixel-scanned            a scanned pixel is a scanned block of size 0
+--     stretch-names            the largest scanned block in it that has z is the one named
 --     place-tile               where the tile ahead of the place of z stops past z, it is the block named
 --     place-stretch            else the two tiles next to the place bound the stretch of z
 --     place-found, place-free  so that code answers the block named, tile or free
@@ -31,12 +32,16 @@ use Rattle.quadtree.proofs.Alignment.{area-pos, size-le, aligned-room, aligned-
 use Rattle.quadtree.proofs.Shown.{accountAt-first, accountAt-rest}
 use Rattle.quadtree.proofs.Chains.{chain-rising, chain-before}
 use Rattle.quadtree.proofs.Linear.{valid-linear}
+use Rattle.bed.specs.declared.Scan.{Scan}
+use Rattle.bed.specs.Places.{placeOf}
+use Rattle.bed.specs.Bed.{bedOf, shownBed}
+use Rattle.scan_check.specs.Opened.{Opened}
 use Rattle.list_search.specs.Cut.{Cut}
 use Rattle.list_search.specs.Count.{isAhead, counted}
 use Rattle.list_search.proofs.CountLaws.{test-ahead, counted-yes, ahead-none, ahead-cut}
-use Rattle.lookup.specs.Block.{blockAt, Names}
+use Rattle.lookup.specs.Block.{blockAt, WhollyScanned, Names}
 use Rattle.lookup.specs.Lookup.{foundOf}
-use Rattle.lookup.specs.Stretch.{stretchFrom, stretchUpto, LargestIn}
+use Rattle.lookup.specs.Stretch.{stretchFrom, stretchUpto, LargestIn, Scanned, ScannedTo}
 use Rattle.lookup.proofs.BlockLaws.{names-same, tile-names, blockAt-names}
 
 pub from-first : (slots : List ℕ) (i : ℕ) → i ≡ 0 → 0 ≡ stretchFrom slots i
@@ -116,35 +121,59 @@ module _ {lo hi z b : ℕ} (behind : Without z hi b) (upto : z < hi) where
       top = λ l. omega (arith, l .1, behind .over .1);
     }
 
--- a uniform block reaches past neither end of the stretch
-pub stretch-names : {n : ℕ} {f : ℕ → ℕ} {lo hi z k : ℕ} → Stretch f (4 ^ n) lo hi z → LargestIn lo hi z k → Names n f z (tile (cornerAt k z) k 0)
-stretch-names {n} {f} {lo} {hi} {z} {k} s w = record {
-  fits = size-le k n (omega (arith, w .lies .1, s .run .room));
+-- the block of size 0 is the pixel
+pub pixel-scanned : (c : Scan) (z : ℕ) → placeOf (c .kind) (c .order) z < c .pixels → Scanned c 0 z
+pixel-scanned c z h y l g = let e : y ≡ z = omega arith in rw e h
+
+-- the largest scanned block in a stretch: a uniform block reaches past neither end of the stretch
+pub stretch-names : (c : Scan) {f : ℕ → ℕ} {lo hi z size k : ℕ} → Stretch f (4 ^ c .order) lo hi z → LargestIn lo hi z size → ScannedTo c size z k →
+    Names (bedOf (c .kind) (c .order) (c .pixels) f) z (tile (cornerAt k z) k 0)
+stretch-names c {f} {lo} {hi} {z} {size} {k} s w v = record {
+  fits = omega (arith, v .low, size-le size n (omega (arith, w .lies .1, s .run .room)));
   inside = omega (arith, corner-has k z .0, s .upto, s .run .room);
   aligned = corner-aligned k z;
   has = corner-has k z;
-  uniform = λ y l h. s .run .uniform y (omega (arith, w .lies .0)) (omega (arith, w .lies .1));
+  scanned = v .scanned;
+  uniform = λ y l h. let o = corner-nest z {j = k} {k = size} (v .low) in s .run .uniform y (omega (arith, w .lies .0, o .0)) (omega (arith, w .lies .1, o .1));
   top = larger;
 }
   where
-    larger : (j c : ℕ) → k < j → j ≤ n → Aligned j c → c ≤ z → z < c + 4 ^ j → Uniform f 0 c (c + 4 ^ j) → ⊥
-    larger j c h g m l u b = w .top (omega (arith, low, o .0), omega (arith, high, o .1))
-      where
-        low : lo ≤ c
-        low = elim (decLt c lo) [ yes d ↦ absurd (s .first (omega arith) (b (lo - 1) (omega arith) (omega (arith, s .from)))) | no d ↦ omega arith ]
+    n : ℕ
+    n = c .order
 
-        high : c + 4 ^ j ≤ hi
-        high = elim (decLt hi (c + 4 ^ j)) [
-          | yes d ↦ absurd (s .run .ended (omega (arith, aligned-room g m (omega (arith, s .upto, s .run .room)))) (b hi (omega (arith, s .upto)) d))
-          | no d ↦ omega arith
+    larger : (j d : ℕ) → k < j → j ≤ c .order → Aligned j d → d ≤ z → z < d + 4 ^ j → WhollyScanned (bedOf (c .kind) (c .order) (c .pixels) f) d (d + 4 ^ j) → Uniform f 0 d (d + 4 ^ j) → ⊥
+    larger j d h g m l u a b = elim (decLt size j) [
+      | yes q ↦ let o = nest (suc size) q in w .top (omega (arith, low, o .0), omega (arith, high, o .1))
+      | no q ↦ let o = nest (suc k) h in v .top (omega arith) (λ y p r. a y (omega (arith, o .0)) (omega (arith, o .1)))
+    ]
+      where
+        low : lo ≤ d
+        low = elim (decLt d lo) [ yes e ↦ absurd (s .first (omega arith) (b (lo - 1) (omega arith) (omega (arith, s .from)))) | no e ↦ omega arith ]
+
+        high : d + 4 ^ j ≤ hi
+        high = elim (decLt hi (d + 4 ^ j)) [
+          | yes e ↦ absurd (s .run .ended (omega (arith, aligned-room g m (omega (arith, s .upto, s .run .room)))) (b hi (omega (arith, s .upto)) e))
+          | no e ↦ omega arith
         ]
 
-        o : (c ≤ cornerAt (suc k) z) × (cornerAt (suc k) z + 4 ^ suc k ≤ c + 4 ^ j)
-        o =
-            let q = corner-has (suc k) z in
-            aligned-nest {j = suc k} {k = j} {x = cornerAt (suc k) z} {c = c} h (corner-aligned (suc k) z) m (omega (arith, q .1)) (omega (arith, q .0))
+        nest : (i : ℕ) → i ≤ j → (d ≤ cornerAt i z) × (cornerAt i z + 4 ^ i ≤ d + 4 ^ j)
+        nest i e =
+            let q = corner-has i z in
+            aligned-nest {j = i} {k = j} {x = cornerAt i z} {c = d} e (corner-aligned i z) m (omega (arith, q .1)) (omega (arith, q .0))
 
-module _ (n t : ℕ) (slots : List ℕ) (count : t ≤ length slots) (valid : Valid n (tilesIn t slots)) where
+module _ (c : Scan) (slots : List ℕ) (opened : Opened c slots) where
+  abbrev n : ℕ
+  n = c .order
+
+  abbrev t : ℕ
+  t = c .tiles
+
+  abbrev count : t ≤ length slots
+  count = opened .count
+
+  abbrev valid : Valid n (tilesIn t slots)
+  valid = opened .valid
+
   abbrev map : ℕ → ℕ
   map = accountAt (tilesIn t slots)
 
@@ -173,11 +202,11 @@ module _ (n t : ℕ) (slots : List ℕ) (count : t ≤ length slots) (valid : Va
     some-ahead : 0 < lo → 0 < i
     some-ahead h = elim (decLt 0 i) [ yes p ↦ p | no p ↦ absurd (omega (arith, from-first slots i (omega arith))) ]
 
-    pub place-tile : z < lo → (0 < i) × Names n map z (tileIn (i - 1))
+    pub place-tile : z < lo → (0 < i) × Names (shownBed c slots) z (tileIn (i - 1))
     place-tile h =
         let p = some-ahead (omega arith) in
-        let c : Covers (tileIn (i - 1)) z = (omega (arith, w .ahead p), omega (arith, from-behind slots i p)) in
-        (p, tile-names valid z (tileIn (i - 1)) (tilesIn-in t slots (i - 1) (omega (arith, w .to)) count) c)
+        let h : Covers (tileIn (i - 1)) z = (omega (arith, w .ahead p), omega (arith, from-behind slots i p)) in
+        (p, tile-names (c .kind) n (c .pixels) (tilesIn t slots) valid (opened .blank) z (tileIn (i - 1)) (tilesIn-in t slots (i - 1) (omega (arith, w .to)) count) h)
 
     -- the stretch ends with a tile, or with the bed
     ends : ((i < t) × (tileIn i .corner ≡ hi)) ⊎ ((i < t → ⊥) × (4 ^ n ≡ hi))
@@ -214,8 +243,12 @@ module _ (n t : ℕ) (slots : List ℕ) (count : t ≤ length slots) (valid : Va
         below = elim ends [ inl e ↦ omega (arith, e .1, w .behind (e .0)) | inr e ↦ omega (arith, e .1) ]
 
     -- what code answers, by whether the tile ahead stops past z
-    pub place-found : z < 4 ^ n → z < lo → foundOf (tileIn (i - 1)) ≡ foundOf (blockAt n (tilesIn t slots) z)
-    place-found l h = ap foundOf (names-same (place-tile h .1) (blockAt-names valid z l))
+    module _ (l : z < 4 ^ n) (scanned : placeOf (c .kind) n z < c .pixels) where
+      named : Names (shownBed c slots) z (blockAt (shownBed c slots) (tilesIn t slots) z)
+      named = blockAt-names (c .kind) n (c .pixels) (tilesIn t slots) valid (opened .blank) z l scanned
 
-    pub place-free : z < 4 ^ n → lo ≤ z → (k : ℕ) → LargestIn lo hi z k → foundOf (tile (cornerAt k z) k 0) ≡ foundOf (blockAt n (tilesIn t slots) z)
-    place-free l h k e = ap foundOf (names-same (stretch-names (place-stretch l h) e) (blockAt-names valid z l))
+      pub place-found : z < lo → foundOf (tileIn (i - 1)) ≡ foundOf (blockAt (shownBed c slots) (tilesIn t slots) z)
+      place-found h = ap foundOf (names-same (place-tile h .1) named)
+
+      pub place-free : lo ≤ z → (size k : ℕ) → LargestIn lo hi z size → ScannedTo c size z k → foundOf (tile (cornerAt k z) k 0) ≡ foundOf (blockAt (shownBed c slots) (tilesIn t slots) z)
+      place-free h size k e v = ap foundOf (names-same (stretch-names c (place-stretch l h) e v) named)

@@ -1,17 +1,21 @@
-// Lookup: the account at a column and a row, and the largest block around it that has this account. Behind the checks
-// it is one binary search: the tiles on either side of the place found bound the free stretch of a nobody's pixel.
+// Lookup: the account at a column and a row, and the largest block around it that is scanned and has this account.
+// Behind the checks it is one binary search: the tiles on either side of the place found bound the free stretch of a
+// nobody's pixel.
 ghost use mathlib.Core.Path.{_≡_};
 ghost use Prim.Native.Nat.{_^_, _<_, _≤_};
 ghost use lib.ListN.{length};
 ghost use Rattle.tile.specs.Tile.{tileOf, highestOrder};
 ghost use Rattle.tile.specs.Slots.{tilesIn};
-ghost use Rattle.quadtree.specs.Valid.{Valid};
 ghost use Rattle.quadtree.specs.Tiling.{Without};
+ghost use Rattle.bed.specs.Places.{placeOf};
+ghost use Rattle.bed.specs.Bed.{shownBed};
+ghost use Rattle.scan_check.specs.Opened.{Opened};
 ghost use Rattle.lookup.specs.Block.{blockAt};
 ghost use Rattle.lookup.specs.Lookup.{lookupCheck, foundOf, lookupOf};
-ghost use Rattle.lookup.specs.Stretch.{stretchFrom, stretchUpto, LargestIn};
+ghost use Rattle.lookup.specs.Stretch.{stretchFrom, stretchUpto, LargestIn, ScannedTo};
+use bed::Scan;
 
-// Lookup's answer: the largest block with the pixel that has one account, and this account.
+// Lookup's answer: the largest block with the pixel that is wholly scanned and has one account, and this account.
 #[repr(C)]
 pub struct Found {
     pub number: u32,
@@ -20,15 +24,19 @@ pub struct Found {
     pub size: u32,
 }
 
-// The checks in their order: those of the list, then 31.
-fn lookup_check(order: u32, tiles: usize, slots: &[u32], column: u32, row: u32) -> u32
-    ensures { λ r. ⌜ r ≡ lookupCheck order tiles (now (slots .entry)) column row ⌝ }
+// The checks in their order: the opening checks, 31, 52.
+fn lookup_check(scan: Scan, slots: &[u32], column: u32, row: u32) -> u32
+    ensures { λ r. ⌜ r ≡ lookupCheck scan (now (slots .entry)) column row ⌝ }
 {
-    let listed = list_check::check(order, tiles, slots);
-    if listed != refusal::ACCEPTED {
-        return listed;
+    let opened = scan_check::open_check(scan, slots);
+    if opened != refusal::ACCEPTED {
+        return opened;
     }
-    checks::point(order, column, row)
+    let point = checks::point(scan.order, column, row);
+    if point != refusal::ACCEPTED {
+        return point;
+    }
+    scan_check::pixel(scan, morton::number(column, row))
 }
 
 // The answer that names a tile.
@@ -90,20 +98,38 @@ fn largest_in(from: u32, upto: u32, z: u32) -> u32
     behind
 }
 
-// The block that a valid list has at the Morton number z: only the last tile that starts by z can cover it, and else
-// that tile and the next one bound the free stretch.
-fn block_at(order: u32, tiles: usize, slots: &[u32], z: u32) -> Found
-    requires { ⌜ (order ≤ highestOrder) × (z < 4 ^ order) × (tiles ≤ length (now slots))
-        × Valid order (tilesIn tiles (now slots)) ⌝ }
-    ensures { λ r. ⌜ r ≡ foundOf (blockAt order (tilesIn tiles (now (slots .entry))) z) ⌝ }
+// The largest size up to `size` of a block that has the scanned pixel z and is wholly scanned.
+fn scanned_size(scan: Scan, size: u32, z: u32) -> u32
+    requires { ⌜ (scan .order ≤ highestOrder) × (z < 4 ^ scan .order) × (size ≤ scan .order)
+        × (placeOf (scan .kind) (scan .order) z < scan .pixels) ⌝ }
+    ensures { λ r. ⌜ ScannedTo scan size z r ⌝ }
 {
+    let mut k = size;
+    while 0 < k {
+        if scan_check::block(scan, tile::corner_at(k, z), k) == refusal::ACCEPTED {
+            return k;
+        }
+        k -= 1;
+    }
+    0
+}
+
+// The block that an opened scan has at the Morton number z of a scanned pixel: only the last tile that starts by z can
+// cover it, and else that tile and the next one bound the free stretch.
+fn block_at(scan: Scan, slots: &[u32], z: u32) -> Found
+    requires { ⌜ Opened scan (now slots) × (z < 4 ^ scan .order)
+        × (placeOf (scan .kind) (scan .order) z < scan .pixels) ⌝ }
+    ensures { λ r. ⌜ r ≡ foundOf
+        (blockAt (shownBed scan (now (slots .entry))) (tilesIn (scan .tiles) (now (slots .entry))) z) ⌝ }
+{
+    let tiles = scan.tiles;
     let place = list_search::cut(slots, 0, tiles, z + 1);
     let from = stretch_from(slots, place);
     if z < from {
         return tile_found(slots[place - 1]);
     }
-    let upto = stretch_upto(order, tiles, slots, place);
-    let size = largest_in(from, upto, z);
+    let upto = stretch_upto(scan.order, tiles, slots, place);
+    let size = scanned_size(scan, largest_in(from, upto, z), z);
     Found {
         number: refusal::ACCEPTED,
         account: 0,
@@ -113,11 +139,11 @@ fn block_at(order: u32, tiles: usize, slots: &[u32], z: u32) -> Found
 }
 
 // The offered call: the account at a column and a row, 0 for nobody, and the block that has it: the tile, or the
-// largest quadrant block that is wholly nobody's. Refused, the first refusal and 0 in all else.
-pub fn lookup(order: u32, tiles: usize, slots: &[u32], column: u32, row: u32) -> Found
-    ensures { λ r. ⌜ r ≡ lookupOf order tiles (now (slots .entry)) column row ⌝ }
+// largest quadrant block that is wholly scanned and wholly nobody's. Refused, the first refusal and 0 in all else.
+pub fn lookup(scan: Scan, slots: &[u32], column: u32, row: u32) -> Found
+    ensures { λ r. ⌜ r ≡ lookupOf scan (now (slots .entry)) column row ⌝ }
 {
-    let number = lookup_check(order, tiles, slots, column, row);
+    let number = lookup_check(scan, slots, column, row);
     if number != refusal::ACCEPTED {
         return Found {
             number,
@@ -126,5 +152,5 @@ pub fn lookup(order: u32, tiles: usize, slots: &[u32], column: u32, row: u32) ->
             size: 0,
         };
     }
-    block_at(order, tiles, slots, morton::number(column, row))
+    block_at(scan, slots, morton::number(column, row))
 }

@@ -1,28 +1,32 @@
 -- The worked lines, computed.
 use mathlib.Core.Path.{refl}
-use Rattle.basics.specs.Choice.{if, tabulate}
+use Rattle.basics.specs.Choice.{if, some, tabulate}
 use Rattle.refusal.specs.Checks.{must, orElse, unless}
-use Rattle.morton.specs.Morton.{morton}
+use Rattle.morton.specs.Morton.{morton, column, row}
 use Rattle.tile.specs.Tile.{wordOf, tileOf}
 use Rattle.tile.specs.Slots.{tilesIn}
 use Rattle.quadtree.specs.Raster.{aligned, accountAt}
 use Rattle.list_check.specs.ListCheck.{follows, lastOfFour, ended, soundCheck, wordCheck, wordsCheck, listCheck}
-use Rattle.bed.specs.Places.{pixelAt, rows}
+use Rattle.bed.specs.Places.{placeOf, pixelAt, scanned, rows}
+use Rattle.scan_check.specs.Opening.{coversUnscanned, opening}
+use Rattle.scan_check.specs.Scanned.{finishedCheck}
 use Rattle.decode.specs.Decode.{decodeCheck, decodeOf}
 use Rattle.mapfile_bytes.specs.Items.{wordAt, wordsAt}
 use Rattle.mapfile_roster.specs.Roster.{covered, rosterFrom, listed, entryGood, entriesGood, tilesListed, rosterGood}
 use Rattle.mapfile_entries.specs.RosterCheck.{entriesAt, rosterCheck}
 use Rattle.mapfile_read.specs.Reader.{tilesCheck, fileCheck, readOf}
 use Rattle.mapfile_sections.specs.Sections.{wordsBytes, entriesBytes}
-use Rattle.mapfile_write.specs.Writer.{fileOf, writeCheck, writeOf}
+use Rattle.mapfile_write.specs.Writer.{fileOf, readyCheck, writeCheck, writeOf}
 use Rattle.mapfile_laws.specs.Totals.{occurs}
 use Rattle.mapfile_laws.specs.Worked.{fileM, TotalLines}
 
 pub total-lines : TotalLines
-unfolding if tabulate must orElse unless morton wordOf tileOf tilesIn aligned accountAt follows lastOfFour ended soundCheck wordCheck wordsCheck listCheck pixelAt rows decodeCheck decodeOf wordAt wordsAt tilesCheck fileCheck readOf covered rosterFrom listed entryGood entriesGood tilesListed rosterGood entriesAt rosterCheck wordsBytes entriesBytes fileOf writeCheck writeOf occurs fileM
+unfolding if some tabulate must orElse unless morton column row wordOf tileOf tilesIn aligned accountAt follows lastOfFour ended soundCheck wordCheck wordsCheck listCheck placeOf pixelAt scanned rows coversUnscanned opening finishedCheck decodeCheck decodeOf wordAt wordsAt tilesCheck fileCheck readOf covered rosterFrom listed entryGood entriesGood tilesListed rosterGood entriesAt rosterCheck wordsBytes entriesBytes fileOf readyCheck writeCheck writeOf occurs fileM
 total-lines = record {
   M-decoded = refl;
   M-written = refl;
+  M-morton = refl;
+  M-short = refl;
   M-read = refl;
   M-tiles-5 = refl;
   M-rows-5 = refl;

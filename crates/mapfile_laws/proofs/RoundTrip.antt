@@ -3,7 +3,10 @@
 --     fileOf-accepted   the reader accepts the file of a valid list where there are slots for it
 --     read-write        and leaves the list in the slots, with its order and its tile count
 --     slots-accounts    the tiles of words in slots have accounts up to the highest
+--     write-passed      what is known past the writer's checks; written-file, what it then leaves
 --     read-written      the same of the two calls: what an accepted write left is read
+--     written-whole     and it has every pixel scanned
+--     writes-scanned    52 keeps from writing just what has an unscanned pixel
 use mathlib.Core.Path.{_≡_, refl, ap, sym, _∙_}
 use mathlib.Core.List.{List, [], _∷_, map, append-nil, List·Memᴰ, List·Memᴰ·head, List·Memᴰ·tail}
 use Prim.Native.Nat.{ℕ, _+_, _*_, _^_, _≤_, _<_}
@@ -14,7 +17,7 @@ use borrow.Author.Tests.{le-leb}
 use Rattle.basics.proofs.Tests.{test-leb}
 use Rattle.refusal.specs.Refusal.{accepted}
 use Rattle.refusal.specs.Checks.{must, orElse}
-use Rattle.refusal.proofs.CheckLaws.{must-inv, else-inv}
+use Rattle.refusal.proofs.CheckLaws.{must-inv, else-on, else-inv}
 use Rattle.tile.specs.Tile.{Tile, tileOf, wordOf, highestOrder, highestAccount}
 use Rattle.tile.specs.Slots.{tilesIn, filled}
 use Rattle.tile.proofs.TileLaws.{Packable, tileOf-account, wordOf-low}
@@ -23,8 +26,12 @@ use Rattle.quadtree.specs.Raster.{_∈_}
 use Rattle.quadtree.specs.Valid.{Valid}
 use Rattle.quadtree.proofs.Alignment.{area-mono}
 use Rattle.quadtree.proofs.ValidLaws.{valid-quadrant, valid-length}
-use Rattle.list_check.specs.ListCheck.{wordsCheck, listCheck}
-use Rattle.list_check.proofs.Accepts.{wordsCheck-valid, listCheck-valid}
+use Rattle.list_check.specs.ListCheck.{wordsCheck}
+use Rattle.list_check.proofs.Accepts.{wordsCheck-valid}
+use Rattle.bed.specs.declared.Scan.{Scan}
+use Rattle.scan_check.specs.Opened.{Opened}
+use Rattle.scan_check.proofs.ScannedLaws.{finished-passed, finished-all}
+use Rattle.scan_check.proofs.Opening.{opening-opened}
 use Rattle.mapfile_bytes.specs.Items.{wordAt, wordsAt}
 use Rattle.mapfile_bytes.proofs.ItemsLaws.{word-whole}
 use Rattle.mapfile_roster.specs.Roster.{Entry, rosterOf}
@@ -34,9 +41,9 @@ use Rattle.mapfile_entries.specs.RosterCheck.{rosterCheck}
 use Rattle.mapfile_read.specs.Reader.{tilesCheck, fileOrder, fileCount, fileCheck, readOf}
 use Rattle.mapfile_read.proofs.ReaderLaws.{tilesCheck-words, readOf-accepted}
 use Rattle.mapfile_sections.specs.Sections.{wordsBytes, entriesBytes}
-use Rattle.mapfile_write.specs.Writer.{fileOf, writeCheck}
-use Rattle.mapfile_write.proofs.WriterLaws.{length-wordsBytes, fileOf-bytes, writeOf-accepted}
-use Rattle.mapfile_laws.specs.RoundTrip.{ReadWritten}
+use Rattle.mapfile_write.specs.Writer.{fileOf, readyCheck, writeCheck, writeOf}
+use Rattle.mapfile_write.proofs.WriterLaws.{length-wordsBytes, fileOf-bytes, writeOf-accepted, ready-opened}
+use Rattle.mapfile_laws.specs.RoundTrip.{ReadWritten, WrittenWhole, WritesScanned}
 use Rattle.mapfile_laws.specs.Totals.{fileEntries}
 use Rattle.mapfile_laws.proofs.Back.{words-back, entries-back, roster-back}
 
@@ -102,12 +109,41 @@ pub slots-accounts : (t : ℕ) (slots : List ℕ) (u : Tile) → u ∈ tilesIn t
 unfolding tilesIn
 slots-accounts t slots u m = tiles-accounts (take t slots) u m
 
-pub read-written : ReadWritten
+-- past the writer's checks the list is valid, and its file fits
+pub record Writes (scan : Scan) (slots file : List ℕ) : Type 0 where
+  pub ready : readyCheck scan slots ≡ accepted
+  pub opened : Opened scan slots
+  pub fits : length (fileOf (scan .order) (tilesIn (scan .tiles) slots)) ≤ length file
+
+pub write-passed : (scan : Scan) (slots file : List ℕ) → writeCheck scan slots file ≡ accepted → Writes scan slots file
 unfolding writeCheck
-read-written n t slots file others e c =
-    let a = else-inv (listCheck n t slots) _ e in
-    let b = must-inv (test-leb (length (fileOf n (tilesIn t slots))) (length file)) (omega arith) (a .1) in
-    let v = listCheck-valid n t slots .0 (a .0) in
-    let l = length-tilesIn t slots (v .1) in
-    rw (writeOf-accepted n t slots file (a .0) (b .0), take-at (fileOf n (tilesIn t slots)) (drop (length (fileOf n (tilesIn t slots))) file) (length (fileOf n (tilesIn t slots))) refl)
-    (read-write n (tilesIn t slots) (v .0) (v .2) (slots-accounts t slots) others (omega arith) ∙ rw (l, filled-tilesIn (length others) t slots (v .1)))
+write-passed scan slots file e =
+    let a = else-inv (readyCheck scan slots) _ e in
+    let b = must-inv (test-leb (length (fileOf (scan .order) (tilesIn (scan .tiles) slots))) (length file)) (omega arith) (a .1) in
+    record { ready = a .0; opened = ready-opened scan slots (a .0); fits = b .0 }
+
+pub written-file : (scan : Scan) (slots file : List ℕ) → writeCheck scan slots file ≡ accepted →
+    take (writeOf scan slots file .answer .length) (writeOf scan slots file .storage) ≡ fileOf (scan .order) (tilesIn (scan .tiles) slots)
+written-file scan slots file e =
+    let w = write-passed scan slots file e in
+    let bytes = fileOf (scan .order) (tilesIn (scan .tiles) slots) in
+    rw (writeOf-accepted scan slots file (w .ready) (w .fits)) (take-at bytes (drop (length bytes) file) (length bytes) refl)
+
+pub read-written : ReadWritten
+read-written scan slots file others e c =
+    let n = scan .order in
+    let t = scan .tiles in
+    let v = write-passed scan slots file e .opened in
+    let l = length-tilesIn t slots (v .count) in
+    rw (written-file scan slots file e)
+    (read-write n (tilesIn t slots) (v .order) (v .valid) (slots-accounts t slots) others (omega arith) ∙ rw (l, filled-tilesIn (length others) t slots (v .count)))
+
+pub written-whole : WrittenWhole
+unfolding readyCheck
+written-whole scan slots file e = finished-passed scan (else-inv _ _ (write-passed scan slots file e .ready) .1)
+
+pub writes-scanned : WritesScanned
+unfolding readyCheck
+writes-scanned scan slots e =
+    let w = finished-all scan (opening-opened scan slots e .scanned) in
+    (λ r z h. w .0 (else-inv _ _ r .1) z (omega arith) (omega arith), λ a. else-on _ _ e ∙ w .1 (λ z l h. a z (omega arith)))

@@ -12,7 +12,7 @@ use native.Mathlib.Nat.{add-zero}
 use native.Mathlib.Decide.{decLe}
 use native.Mathlib.Omega.{arith}
 use lib.Dec.{ltb, eqb}
-use lib.ListN.{length, take, drop, getD, replicate, length-append}
+use lib.ListN.{length, take, getD, replicate, length-append}
 use lib.Seq.{take-at}
 use Rattle.basics.specs.Choice.{if, count, tabulate}
 use Rattle.basics.proofs.Tests.{test-leb, told-true, test-true}
@@ -20,7 +20,7 @@ use Rattle.basics.proofs.ChoiceLaws.{if-no}
 use Rattle.basics.proofs.CountLaws.{count-moved}
 use Rattle.refusal.specs.Refusal.{accepted, fileCutShort, trailingBytes, rosterWrong}
 use Rattle.refusal.specs.Checks.{must, After}
-use Rattle.refusal.proofs.CheckLaws.{must-on, must-inv, must-other, else-inv}
+use Rattle.refusal.proofs.CheckLaws.{must-on, must-inv, must-other}
 use Rattle.tile.specs.Tile.{Tile, tileOf}
 use Rattle.tile.specs.Slots.{tilesIn}
 use Rattle.quadtree.specs.Raster.{accountAt}
@@ -31,6 +31,7 @@ use Rattle.quadtree.proofs.ValidLaws.{quadtree-valid, quadtree-shown}
 use Rattle.list_check.specs.ListCheck.{listCheck}
 use Rattle.list_check.proofs.Accepts.{listCheck-valid}
 use Rattle.bed.specs.declared.Kind.the-variants.{Rows}
+use Rattle.bed.specs.declared.Scan.{Scan}
 use Rattle.bed.specs.Places.{placeOf, pixelAt, rows}
 use Rattle.bed.proofs.PlaceLaws.{pixelAt-lt, placeOf-lt, placeOf-pixelAt, pixelAt-placeOf, rows-cong}
 use Rattle.decode.specs.Decode.{decodeOf}
@@ -42,10 +43,9 @@ use Rattle.mapfile_roster.proofs.RosterLaws.{rosterOf-good}
 use Rattle.mapfile_entries.specs.RosterCheck.{entriesAt, rosterCheck}
 use Rattle.mapfile_read.specs.Reader.{fileOrder, fileCount, fileWords, fileCheck}
 use Rattle.mapfile_read.proofs.ReaderLaws.{Passed, readOf-valid, readOf-accepted, readOf-wrong}
-use Rattle.mapfile_write.specs.Writer.{fileOf, writeCheck, writeOf}
-use Rattle.mapfile_write.proofs.WriterLaws.{writeOf-accepted}
+use Rattle.mapfile_write.specs.Writer.{writeCheck, writeOf}
 use Rattle.mapfile_laws.specs.Totals.{occurs, fileEntries, Tallies, Totals}
-use Rattle.mapfile_laws.proofs.RoundTrip.{fileOf-entries, slots-accounts}
+use Rattle.mapfile_laws.proofs.RoundTrip.{fileOf-entries, slots-accounts, write-passed, written-file}
 
 occurs-table : (a : ℕ) (g : ℕ → ℕ) (lo n : ℕ) → occurs a (tabulate g lo n) + count (λ i. eqb (g i) a) lo ≡ count (λ i. eqb (g i) a) (lo + n)
 unfolding occurs tabulate count
@@ -114,16 +114,15 @@ shown-rows n f = rows-cong n (accountAt (quadtree n f)) f (quadtree-shown n f)
 decoded-rows : (n t : ℕ) (slots raster : List ℕ) → listCheck n t slots ≡ accepted → length raster ≡ 4 ^ n → decodeOf n t slots raster .storage ≡ rows n (accountAt (tilesIn t slots))
 decoded-rows n t slots raster e l = ap (λ (x : After ℕ). x .storage) (decodeOf-filled n t slots raster e l)
 
-written-tallies : (n t : ℕ) (slots file raster : List ℕ) → writeCheck n t slots file ≡ accepted → length raster ≡ 4 ^ n →
-    Tallies (decodeOf n t slots raster .storage) (fileEntries (take (writeOf n t slots file .answer .length) (writeOf n t slots file .storage)))
-unfolding writeCheck
-written-tallies n t slots file raster e l =
-    let a = else-inv (listCheck n t slots) _ e in
-    let b = must-inv (test-leb (length (fileOf n (tilesIn t slots))) (length file)) (omega arith) (a .1) in
-    let v = listCheck-valid n t slots .0 (a .0) in
-    let ts : List Tile = tilesIn t slots in
-    rw (decoded-rows n t slots raster (a .0) l, writeOf-accepted n t slots file (a .0) (b .0), take-at (fileOf n ts) (drop (length (fileOf n ts)) file) (length (fileOf n ts)) refl, fileOf-entries n ts (v .0) (v .2) (slots-accounts t slots))
-    (good-tallies (v .2) .0 (rosterOf-good (v .2) (slots-accounts t slots)))
+written-tallies : (scan : Scan) (slots file raster : List ℕ) → writeCheck scan slots file ≡ accepted → length raster ≡ 4 ^ scan .order →
+    Tallies (decodeOf (scan .order) (scan .tiles) slots raster .storage) (fileEntries (take (writeOf scan slots file .answer .length) (writeOf scan slots file .storage)))
+written-tallies scan slots file raster e l =
+    let n = scan .order in
+    let t = scan .tiles in
+    let v = write-passed scan slots file e .opened in
+    let list = listCheck-valid n t slots .1 (v .order, v .count, v .valid) in
+    rw (decoded-rows n t slots raster list l, written-file scan slots file e, fileOf-entries n (tilesIn t slots) (v .order) (v .valid) (slots-accounts t slots))
+    (good-tallies (v .valid) .0 (rosterOf-good (v .valid) (slots-accounts t slots)))
 
 -- a roster section that is neither cut short nor too long is judged by its entries
 module _ (ts : List Tile) (section : List ℕ) where

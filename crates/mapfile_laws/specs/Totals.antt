@@ -20,6 +20,7 @@ use Rattle.tile.specs.Slots.{tilesIn}
 use Rattle.quadtree.specs.Raster.{accountAt}
 use Rattle.quadtree.specs.Quadtree.{LinearQuadtree}
 use Rattle.list_check.specs.ListCheck.{listCheck}
+use Rattle.bed.specs.declared.Scan.{Scan}
 use Rattle.bed.specs.Places.{rows}
 use Rattle.decode.specs.Decode.{decodeOf}
 use Rattle.mapfile_bytes.specs.Layout.{rosterPlace, entriesPlace}
@@ -54,10 +55,10 @@ pub record Totals : Type 0 where
   pub roster : (n : ℕ) (f : ℕ → ℕ) (ts : List Tile) (es : List Entry) → LinearQuadtree n f ts →
       (rosterGood ts es ≡ true) ↔ Tallies (rows n f) es
   -- a written file's roster tallies with what decoding the map leaves
-  pub written : (order tiles : ℕ) (slots file raster : List ℕ) → writeCheck order tiles slots file ≡ accepted →
-      length raster ≡ 4 ^ order →
-      Tallies (decodeOf order tiles slots raster .storage)
-      (fileEntries (take (writeOf order tiles slots file .answer .length) (writeOf order tiles slots file .storage)))
+  pub written : (scan : Scan) (slots file raster : List ℕ) → writeCheck scan slots file ≡ accepted →
+      length raster ≡ 4 ^ scan .order →
+      Tallies (decodeOf (scan .order) (scan .tiles) slots raster .storage)
+      (fileEntries (take (writeOf scan slots file .answer .length) (writeOf scan slots file .storage)))
   -- the roster of a file that was read tallies with what decoding the list read leaves
   pub read : (file slots raster : List ℕ) →
       let order : ℕ = readOf file slots .answer .order in

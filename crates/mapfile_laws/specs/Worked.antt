@@ -5,8 +5,10 @@ use mathlib.Core.Path.{_≡_}
 use mathlib.Core.List.{List, [], _∷_, _++_}
 use Prim.Native.Nat.{ℕ}
 use lib.ListN.{take, replicate}
-use Rattle.refusal.specs.Refusal.{accepted, rosterWrong}
+use Rattle.refusal.specs.Refusal.{accepted, rosterWrong, unscanned}
 use Rattle.tile.specs.Slots.{tilesIn}
+use Rattle.bed.specs.declared.Kind.the-variants.{Rows, Morton}
+use Rattle.bed.specs.Places.{scanOf}
 use Rattle.bed.specs.Worked.{rowsM, wordsM}
 use Rattle.decode.specs.Decode.{decodeOf}
 use Rattle.mapfile_roster.specs.Roster.{covered}
@@ -23,9 +25,16 @@ fileM =
 pub record TotalLines : Type 0 where
   -- decoded, M's list gives its rows, written, its file, and that is read back
   pub M-decoded : decodeOf 2 4 wordsM (replicate 16 1) .storage ≡ rowsM
-  pub M-written : writeOf 2 4 wordsM (replicate 33 1) ≡ record {
+  pub M-written : writeOf (scanOf Rows 2 16 4) wordsM (replicate 33 1) ≡ record {
     answer = record { number = accepted; length = 32 };
     storage = fileM ++ 1 ∷ [];
+  }
+  -- so it is where M was scanned in Morton order; one pixel short of M, all of whose tiles end by then, no file is
+  -- written, and that is told before the bytes are looked at
+  pub M-morton : writeOf (scanOf Morton 2 16 4) wordsM (replicate 33 1) .storage ≡ fileM ++ 1 ∷ []
+  pub M-short : writeOf (scanOf Rows 2 15 3) (69 ∷ 7177 ∷ 8201 ∷ []) [] ≡ record {
+    answer = record { number = unscanned; length = 0 };
+    storage = [];
   }
   pub M-read : readOf fileM (replicate 5 1) ≡ record {
     answer = record { number = accepted; order = 2; tiles = 4 };
@@ -45,5 +54,5 @@ pub record TotalLines : Type 0 where
   pub M-tiles-0 : covered 0 (tilesIn 4 wordsM) ≡ 0
   pub M-rows-0 : occurs 0 rowsM ≡ 6
   -- an empty bed's roster has no entry; one tile of order 10 has all 4^10 pixels
-  pub empty-written : writeOf 0 0 [] (replicate 6 1) .storage ≡ 0 ∷ 0 ∷ 0 ∷ 0 ∷ 0 ∷ 0 ∷ []
+  pub empty-written : writeOf (scanOf Rows 0 1 0) [] (replicate 6 1) .storage ≡ 0 ∷ 0 ∷ 0 ∷ 0 ∷ 0 ∷ 0 ∷ []
   pub whole-bed : covered 63 (tilesIn 1 (703 ∷ [])) ≡ 1048576

@@ -7,6 +7,7 @@
 --     fileOf-put           the parts of a file stored in turn are the file; roster-room, the last one has room
 --     writeOf-refused, -short, -accepted   what the writer answers and leaves, by how its checks end
 --     writeOf-put          the same of a file that is stored
+--     ready-opened         what is known of a list past the checks ahead of 26
 use mathlib.Core.Path.{_≡_, refl, ap, sym, _∙_}
 use mathlib.Core.List.{List, [], _∷_, _++_, map}
 use Prim.Native.Nat.{ℕ, _+_, _-_, _*_, _^_, _≤_, _<_}
@@ -17,21 +18,23 @@ use lib.Seq.{sets, length-take-le}
 use Rattle.basics.proofs.Tests.{test-leb}
 use Rattle.refusal.specs.Refusal.{accepted, bytesTooFew}
 use Rattle.refusal.specs.Checks.{must, unless, After}
-use Rattle.refusal.proofs.CheckLaws.{must-on, must-off, else-on, else-off, unless-off}
+use Rattle.refusal.proofs.CheckLaws.{must-on, must-off, else-on, else-off, else-inv, unless-off}
 use Rattle.tile.specs.Tile.{Tile, wordOf, highestOrder}
 use Rattle.tile.specs.Slots.{tilesIn}
 use Rattle.tile.proofs.SlotsLaws.{words-tiles, length-tilesIn}
 use Rattle.quadtree.specs.Valid.{Valid}
 use Rattle.quadtree.proofs.Alignment.{area-mono}
 use Rattle.quadtree.proofs.ValidLaws.{valid-length}
-use Rattle.list_check.specs.ListCheck.{listCheck}
+use Rattle.bed.specs.declared.Scan.{Scan}
+use Rattle.scan_check.specs.Opened.{Opened}
+use Rattle.scan_check.proofs.Opening.{opening-opened}
 use Rattle.mapfile_roster.specs.Roster.{rosterOf}
 use Rattle.mapfile_roster.proofs.RosterLaws.{accountsOf, rosterOf-length}
 use Rattle.mapfile_sections.specs.Sections.{wordBytes, wordsBytes, entriesBytes, rosterBytes}
 use Rattle.mapfile_sections.proofs.Puts.{sets-append, sets-front, part-all, part-put}
 use Rattle.mapfile_sections.proofs.Passes.{length-entriesBytes}
 use Rattle.mapfile_write.specs.declared.Written.{Written}
-use Rattle.mapfile_write.specs.Writer.{fileOf, writeCheck, writeOf}
+use Rattle.mapfile_write.specs.Writer.{fileOf, readyCheck, writeCheck, writeOf}
 
 pub length-wordsBytes : (ws : List ℕ) → length (wordsBytes ws) ≡ 4 * length ws
 unfolding wordsBytes
@@ -73,22 +76,30 @@ module _ (n t k : ℕ) (slots xs : List ℕ) (h : t ≤ length slots) (ek : k �
   pub roster-room : (b : List ℕ) → length xs ≡ length b → 6 + 4 * t + 5 * k ≤ length xs → 1 + 5 * k ≤ length (take (length b - (5 + 4 * t)) (drop (5 + 4 * t) b))
   roster-room b same room = rw (part-all b (5 + 4 * t)) (omega (arith, length-drop (5 + 4 * t) b))
 
-module _ (n t : ℕ) (slots file : List ℕ) where
-  pub writeOf-refused : (r : ℕ) → r ≡ listCheck n t slots → (r ≡ accepted → ⊥) → _≡_ {A = After Written} (record { answer = record { number = r; length = 0 }; storage = file }) (writeOf n t slots file)
+module _ (scan : Scan) (slots file : List ℕ) where
+  abbrev bytes : List ℕ
+  bytes = fileOf (scan .order) (tilesIn (scan .tiles) slots)
+
+  pub writeOf-refused : (r : ℕ) → r ≡ readyCheck scan slots → (r ≡ accepted → ⊥) → _≡_ {A = After Written} (record { answer = record { number = r; length = 0 }; storage = file }) (writeOf scan slots file)
   unfolding writeOf writeCheck
   writeOf-refused r e z = rw (← e, else-off r _ z) (sym (unless-off r _ _ z))
 
-  module _ (e : listCheck n t slots ≡ accepted) where
-    pub writeOf-short : length file < length (fileOf n (tilesIn t slots)) → _≡_ {A = After Written} (record { answer = record { number = bytesTooFew; length = 0 }; storage = file }) (writeOf n t slots file)
+  module _ (e : readyCheck scan slots ≡ accepted) where
+    pub writeOf-short : length file < length bytes → _≡_ {A = After Written} (record { answer = record { number = bytesTooFew; length = 0 }; storage = file }) (writeOf scan slots file)
     unfolding writeOf writeCheck unless
-    writeOf-short h = rw (else-on _ (must (leb (length (fileOf n (tilesIn t slots))) (length file)) bytesTooFew accepted) e, must-off bytesTooFew accepted (test-leb (length (fileOf n (tilesIn t slots))) (length file)) (λ l. omega arith))
+    writeOf-short h = rw (else-on _ (must (leb (length bytes) (length file)) bytesTooFew accepted) e, must-off bytesTooFew accepted (test-leb (length bytes) (length file)) (λ l. omega arith))
 
-    pub writeOf-accepted : length (fileOf n (tilesIn t slots)) ≤ length file →
-        writeOf n t slots file ≡ record { answer = record { number = accepted; length = length (fileOf n (tilesIn t slots)) }; storage = fileOf n (tilesIn t slots) ++ drop (length (fileOf n (tilesIn t slots))) file }
+    pub writeOf-accepted : length bytes ≤ length file →
+        writeOf scan slots file ≡ record { answer = record { number = accepted; length = length bytes }; storage = bytes ++ drop (length bytes) file }
     unfolding writeOf writeCheck unless
-    writeOf-accepted h = rw (else-on _ (must (leb (length (fileOf n (tilesIn t slots))) (length file)) bytesTooFew accepted) e, must-on bytesTooFew accepted (test-leb (length (fileOf n (tilesIn t slots))) (length file)) h)
+    writeOf-accepted h = rw (else-on _ (must (leb (length bytes) (length file)) bytesTooFew accepted) e, must-on bytesTooFew accepted (test-leb (length bytes) (length file)) h)
 
-    pub writeOf-put : (l : ℕ) {ys : List ℕ} → length (fileOf n (tilesIn t slots)) ≡ l → l ≤ length file → ys ≡ sets file 0 (fileOf n (tilesIn t slots)) → _≡_ {A = After Written} (record { answer = record { number = accepted; length = l }; storage = ys }) (writeOf n t slots file)
+    pub writeOf-put : (l : ℕ) {ys : List ℕ} → length bytes ≡ l → l ≤ length file → ys ≡ sets file 0 bytes → _≡_ {A = After Written} (record { answer = record { number = accepted; length = l }; storage = ys }) (writeOf scan slots file)
     writeOf-put l el h ey =
-        let h' : length (fileOf n (tilesIn t slots)) ≤ length file = omega arith in
-        rw (writeOf-accepted h', ey, sets-front file (fileOf n (tilesIn t slots)) h', ← el)
+        let h' : length bytes ≤ length file = omega arith in
+        rw (writeOf-accepted h', ey, sets-front file bytes h', ← el)
+
+-- what is known of a list past the checks ahead of 26
+pub ready-opened : (scan : Scan) (slots : List ℕ) → readyCheck scan slots ≡ accepted → Opened scan slots
+unfolding readyCheck
+ready-opened scan slots e = opening-opened scan slots (else-inv _ _ e .0)

@@ -9,7 +9,7 @@ ghost use Rattle.tile.specs.Slots.{tilesIn};
 ghost use Rattle.quadtree.specs.Valid.{Valid};
 ghost use Rattle.mapfile_bytes.specs.Layout.{fileLength};
 ghost use Rattle.mapfile_roster.specs.Roster.{rosterOf};
-ghost use Rattle.mapfile_write.specs.Writer.{fileOf, writeOf};
+ghost use Rattle.mapfile_write.specs.Writer.{fileOf, readyCheck, writeOf};
 
 // The writer's answer: the bytes written.
 #[repr(C)]
@@ -33,11 +33,25 @@ fn put_file(order: u32, tiles: usize, slots: &[u32], accounts: usize, file: &mut
     mapfile_sections::put_roster(order, tiles, slots, accounts, &mut file[at..]);
 }
 
-// The offered call: writes the file of a list and answers its length, or answers the first refusal and changes no byte.
-pub fn write(order: u32, tiles: usize, slots: &[u32], file: &mut [u8]) -> Written
-    ensures { λ r. ⌜ Gives r (now (file .exit)) (writeOf order tiles (now (slots .entry)) (now (file .entry))) ⌝ }
+// The checks ahead of the file's length: the opening checks, 52.
+fn ready(scan: bed::Scan, slots: &[u32]) -> u32
+    ensures { λ r. ⌜ r ≡ readyCheck scan (now (slots .entry)) ⌝ }
 {
-    let number = list_check::check(order, tiles, slots);
+    let opened = scan_check::open_check(scan, slots);
+    if opened != refusal::ACCEPTED {
+        return opened;
+    }
+    scan_check::finished(scan)
+}
+
+// The offered call: writes the file of a finished scan's list and answers its length, or answers the first refusal and
+// changes no byte.
+pub fn write(scan: bed::Scan, slots: &[u32], file: &mut [u8]) -> Written
+    ensures { λ r. ⌜ Gives r (now (file .exit)) (writeOf scan (now (slots .entry)) (now (file .entry))) ⌝ }
+{
+    let order = scan.order;
+    let tiles = scan.tiles;
+    let number = ready(scan, slots);
     if number != refusal::ACCEPTED {
         return Written { number, length: 0 };
     }

@@ -93,3 +93,7 @@ rosterWrong = 43
 -- two maps of orders that differ
 abbrev pub ordersDiffer : ℕ
 ordersDiffer = 51
+
+-- an unscanned point, a block with an unscanned pixel, or a file to be written from an unfinished scan
+abbrev pub unscanned : ℕ
+unscanned = 52

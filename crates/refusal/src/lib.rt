@@ -46,3 +46,5 @@ pub const TRAILING_BYTES: u32 = 42;
 pub const ROSTER_WRONG: u32 = 43;
 
 pub const ORDERS_DIFFER: u32 = 51;
+
+pub const UNSCANNED: u32 = 52;

@@ -9,8 +9,11 @@ use Prim.Native.Nat.{ℕ}
 use Rattle.refusal.specs.Refusal.{accepted}
 use Rattle.refusal.specs.Checks.{orElse, unless}
 use Rattle.refusal.proofs.CheckLaws.{else-on, else-off, else-inv, else-else, unless-on, unless-off, unless-alike}
-use Rattle.list_check.specs.ListCheck.{listCheck}
+use Rattle.morton.specs.Morton.{morton}
+use Rattle.bed.specs.declared.Scan.{Scan}
 use Rattle.checks.specs.Asked.{pointCheck, askerCheck}
+use Rattle.scan_check.specs.Opening.{opening}
+use Rattle.scan_check.specs.Scanned.{scannedCheck}
 use Rattle.lookup.specs.declared.Found.{Found}
 use Rattle.lookup.specs.Lookup.{lookupCheck, lookupOf}
 use Rattle.lookup.specs.Promises.{LookupAlike}
@@ -20,40 +23,46 @@ use Rattle.rights.specs.declared.Right.{Right}
 use Rattle.rights.specs.Rights.{mayPlace, rightsCheck, rightsOf}
 use Rattle.rights.specs.Rests.{RightsByLookup, RightsAlike}
 
-module _ (n t : ℕ) (slots : List ℕ) (c r p : ℕ) where
-  -- the checks of lookup, then 34
-  checks-grouped : orElse (lookupCheck n t slots c r) (askerCheck p) ≡ rightsCheck n t slots c r p
-  unfolding lookupCheck rightsCheck
-  checks-grouped = else-else (listCheck n t slots) (pointCheck n c r) (askerCheck p)
+module _ (scan : Scan) (slots : List ℕ) (c r p : ℕ) where
+  abbrev point : ℕ
+  point = pointCheck (scan .order) c r
 
-  same-checks : orElse (lookupOf n t slots c r .number) (askerCheck p) ≡ rightsCheck n t slots c r p
-  same-checks = rw (lookupOf-number n t slots c r) checks-grouped
+  abbrev seen : ℕ
+  seen = scannedCheck scan (morton (scan .order) c r)
+
+  -- the checks of lookup, then 34
+  checks-grouped : orElse (lookupCheck scan slots c r) (askerCheck p) ≡ rightsCheck scan slots c r p
+  unfolding lookupCheck rightsCheck
+  checks-grouped = else-else (opening scan slots) (orElse point seen) (askerCheck p) ∙ ap (λ (x : ℕ). orElse (opening scan slots) x) (else-else point seen (askerCheck p))
+
+  same-checks : orElse (lookupOf scan slots c r .number) (askerCheck p) ≡ rightsCheck scan slots c r p
+  same-checks = rw (lookupOf-number scan slots c r) checks-grouped
 
 pub rights-by-lookup : RightsByLookup
 unfolding RightsByLookup rightsOf
-rights-by-lookup n t slots c r p = rw (same-checks n t slots c r p)
-    (unless-alike (λ (a b : Right). a ≡ b) (rightsCheck n t slots c r p) (λ x. refl)
-    (λ e. ap (λ (h : ℕ). record { number = accepted; yes = mayPlace p h }) (sym (lookup-account n t slots c r (else-inv _ _ (checks-grouped n t slots c r p ∙ e) .0)))))
+rights-by-lookup scan slots c r p = rw (same-checks scan slots c r p)
+    (unless-alike (λ (a b : Right). a ≡ b) (rightsCheck scan slots c r p) (λ x. refl)
+    (λ e. ap (λ (h : ℕ). record { number = accepted; yes = mayPlace p h }) (sym (lookup-account scan slots c r (else-inv _ _ (checks-grouped scan slots c r p ∙ e) .0)))))
 
 pub rights-alike : RightsAlike
 unfolding RightsAlike RightsByLookup LookupAlike
-rights-alike n t slots c r c′ r′ p e i =
-    rights-by-lookup n t slots c′ r′ p ∙ rw (lookup-alike n t slots c r c′ r′ e .1 i) (sym (rights-by-lookup n t slots c r p))
+rights-alike scan slots c r c′ r′ p e i =
+    rights-by-lookup scan slots c′ r′ p ∙ rw (lookup-alike scan slots c r c′ r′ e .1 i) (sym (rights-by-lookup scan slots c r p))
 
-module _ (n t : ℕ) (slots : List ℕ) (c r p : ℕ) (f : Found) (is : f ≡ lookupOf n t slots c r) where
-  by-found : rightsOf n t slots c r p ≡ unless (orElse (f .number) (askerCheck p)) (λ number. record { number = number; yes = false }) (record { number = accepted; yes = mayPlace p (f .account) })
+module _ (scan : Scan) (slots : List ℕ) (c r p : ℕ) (f : Found) (is : f ≡ lookupOf scan slots c r) where
+  by-found : rightsOf scan slots c r p ≡ unless (orElse (f .number) (askerCheck p)) (λ number. record { number = number; yes = false }) (record { number = accepted; yes = mayPlace p (f .account) })
   unfolding RightsByLookup
-  by-found = rw is (rights-by-lookup n t slots c r p)
+  by-found = rw is (rights-by-lookup scan slots c r p)
 
-  pub rightsOf-lookup : (f .number ≡ accepted → ⊥) → record { number = f .number; yes = false } ≡ rightsOf n t slots c r p
+  pub rightsOf-lookup : (f .number ≡ accepted → ⊥) → record { number = f .number; yes = false } ≡ rightsOf scan slots c r p
   rightsOf-lookup h = sym (by-found ∙ rw (else-off (f .number) (askerCheck p) h) (unless-off (f .number) _ _ h))
 
   module _ (x : ℕ) (asked : x ≡ askerCheck p) (found : f .number ≡ accepted) where
     number : orElse (f .number) (askerCheck p) ≡ x
     number = else-on (f .number) (askerCheck p) found ∙ sym asked
 
-    pub rightsOf-asker : (x ≡ accepted → ⊥) → record { number = x; yes = false } ≡ rightsOf n t slots c r p
+    pub rightsOf-asker : (x ≡ accepted → ⊥) → record { number = x; yes = false } ≡ rightsOf scan slots c r p
     rightsOf-asker h = sym (by-found ∙ rw number (unless-off x _ _ h))
 
-    pub rightsOf-answer : x ≡ accepted → (b : Bool) → b ≡ mayPlace p (f .account) → record { number = accepted; yes = b } ≡ rightsOf n t slots c r p
+    pub rightsOf-answer : x ≡ accepted → (b : Bool) → b ≡ mayPlace p (f .account) → record { number = accepted; yes = b } ≡ rightsOf scan slots c r p
     rightsOf-answer h b e = sym (by-found ∙ unless-on _ _ _ (number ∙ h) ∙ rw (sym e))

@@ -8,18 +8,19 @@ use Prim.Native.Nat.{ℕ}
 use Rattle.refusal.specs.Refusal.{accepted}
 use Rattle.refusal.specs.Checks.{orElse, unless}
 use Rattle.morton.specs.Morton.{Square}
+use Rattle.bed.specs.declared.Scan.{Scan}
 use Rattle.checks.specs.Asked.{askerCheck}
 use Rattle.lookup.specs.Lookup.{lookupOf}
 use Rattle.rights.specs.Rights.{mayPlace, rightsOf}
 
 unfoldable pub RightsByLookup : Type 0
-RightsByLookup = (n t : ℕ) (slots : List ℕ) (c r p : ℕ) →
-    rightsOf n t slots c r p
-    ≡ unless (orElse (lookupOf n t slots c r .number) (askerCheck p))
+RightsByLookup = (scan : Scan) (slots : List ℕ) (c r p : ℕ) →
+    rightsOf scan slots c r p
+    ≡ unless (orElse (lookupOf scan slots c r .number) (askerCheck p))
     (λ number. record { number = number; yes = false })
-    (record { number = accepted; yes = mayPlace p (lookupOf n t slots c r .account) })
+    (record { number = accepted; yes = mayPlace p (lookupOf scan slots c r .account) })
 
 unfoldable pub RightsAlike : Type 0
-RightsAlike = (n t : ℕ) (slots : List ℕ) (c r c′ r′ p : ℕ) → lookupOf n t slots c r .number ≡ accepted →
-    Square n (lookupOf n t slots c r .size) (lookupOf n t slots c r .corner) c′ r′ →
-    rightsOf n t slots c′ r′ p ≡ rightsOf n t slots c r p
+RightsAlike = (scan : Scan) (slots : List ℕ) (c r c′ r′ p : ℕ) → lookupOf scan slots c r .number ≡ accepted →
+    Square (scan .order) (lookupOf scan slots c r .size) (lookupOf scan slots c r .corner) c′ r′ →
+    rightsOf scan slots c′ r′ p ≡ rightsOf scan slots c r p

@@ -1,9 +1,10 @@
--- Placement rights (document 01, "Other calls"): may account p place at a pixel? Definitions only.
+-- Placement rights (document 01, "Other calls"; document 02, request 5): may account p place at a pixel? Definitions
+-- only.
 --     Class, classOf a       staff are accounts 1 to 7, students 8 to 47, guests from 48 on
 --     tableRow c             the row of the paper's table for an asking class
 --     pixelKind p q          the column of the table for the asking account p and the pixel's account q
 --     mayPlace p q           the table's answer
---     rightsCheck ..         1, 2, 11 to 16, then 31, then 34
+--     rightsCheck ..         the opening checks, then 31, 52, 34
 --     rightsOf ..            the offered call
 use mathlib.Core.Bool.{Bool, true, false}
 use mathlib.Core.List.{List, [], _∷_}
@@ -16,8 +17,10 @@ use Rattle.refusal.specs.Checks.{orElse, unless}
 use Rattle.morton.specs.Morton.{morton}
 use Rattle.tile.specs.Slots.{tilesIn}
 use Rattle.quadtree.specs.Raster.{accountAt}
-use Rattle.list_check.specs.ListCheck.{listCheck}
+use Rattle.bed.specs.declared.Scan.{Scan}
 use Rattle.checks.specs.Asked.{pointCheck, askerCheck}
+use Rattle.scan_check.specs.Opening.{opening}
+use Rattle.scan_check.specs.Scanned.{scannedCheck}
 use Rattle.rights.specs.declared.Right.{Right}
 
 pub data Class : Type 0 where
@@ -44,11 +47,15 @@ pixelKind p q = if (eqb p q) 0 (if (eqb q 0) 1 (heldBy (classOf q)))
 unfoldable pub mayPlace : ℕ → ℕ → Bool
 mayPlace p q = getD (tableRow (classOf p)) (pixelKind p q) false
 
-unfoldable pub rightsCheck : ℕ → ℕ → List ℕ → ℕ → ℕ → ℕ → ℕ
-rightsCheck n t slots c r p = orElse (listCheck n t slots) (orElse (pointCheck n c r) (askerCheck p))
+unfoldable pub rightsCheck : Scan → List ℕ → ℕ → ℕ → ℕ → ℕ
+rightsCheck scan slots c r p = orElse (opening scan slots)
+    (orElse (pointCheck (scan .order) c r) (orElse (scannedCheck scan (morton (scan .order) c r)) (askerCheck p)))
 
-unfoldable pub rightsOf : ℕ → ℕ → List ℕ → ℕ → ℕ → ℕ → Right
-rightsOf n t slots c r p =
-    unless (rightsCheck n t slots c r p)
+unfoldable pub rightsOf : Scan → List ℕ → ℕ → ℕ → ℕ → Right
+rightsOf scan slots c r p =
+    unless (rightsCheck scan slots c r p)
     (λ number. record { number = number; yes = false })
-    (record { number = accepted; yes = mayPlace p (accountAt (tilesIn t slots) (morton n c r)) })
+    (record {
+      number = accepted;
+      yes = mayPlace p (accountAt (tilesIn (scan .tiles) slots) (morton (scan .order) c r));
+    })

@@ -74,10 +74,10 @@ fn may_place(asking: u8, holder: u8) -> bool
 
 // The offered call: may the asking account place at the pixel in a column and a row? Refused, the first refusal and no.
 // It rests on lookup's answer: first lookup's refusals, then 34.
-pub fn rights(order: u32, tiles: usize, slots: &[u32], column: u32, row: u32, asking: u8) -> Right
-    ensures { λ r. ⌜ r ≡ rightsOf order tiles (now (slots .entry)) column row asking ⌝ }
+pub fn rights(scan: bed::Scan, slots: &[u32], column: u32, row: u32, asking: u8) -> Right
+    ensures { λ r. ⌜ r ≡ rightsOf scan (now (slots .entry)) column row asking ⌝ }
 {
-    let found = lookup::lookup(order, tiles, slots, column, row);
+    let found = lookup::lookup(scan, slots, column, row);
     if found.number != refusal::ACCEPTED {
         return Right {
             number: found.number,

@@ -20,10 +20,10 @@ use Rattle.quadtree.proofs.Blocks.{blank-quadtree}
 use Rattle.bed.specs.declared.Kind.{Kind}
 use Rattle.bed.specs.declared.Scan.{Scan}
 use Rattle.bed.specs.Bed as bed
+use Rattle.bed.specs.Bed.{shownBed}
 use Rattle.bed.proofs.BedLaws.{Room, feedPixels-room}
 use Rattle.scan_gap.specs.Gap.{held}
 use Rattle.scan_gap.proofs.Parts.{held-length}
-use Rattle.scan_feed.specs.Shown.{shownBed}
 use Rattle.scan_feed.specs.Feeding.{FedTo}
 use Rattle.scan_feed.specs.declared.AfterPixels.{AfterPixels}
 use Rattle.scan.specs.FreshScan.{freshOf}

@@ -1,7 +1,6 @@
--- Check 22: the last pixel of a tile decides, since it comes last in the scan, whatever its kind.
+-- The place of a pixel as code computes it, and check 22.
 --     place-rows, place-morton   the place of a pixel as the code computes it, by kind
 --     place-fits                 it fits a word
---     unscanned-last             a tile covers a pixel that is not scanned just if its last pixel is none
 --     word-quadrant              the words of a valid list are quadrant tiles
 --     covers-found, covers-on    one word of the list decides, or the words behind it do
 --     covers-none                no word is left
@@ -23,7 +22,7 @@ use Rattle.morton.proofs.MortonLaws.{column-wide, row-wide}
 use Rattle.tile.specs.Tile.{Tile, stop, tileOf, highestOrder}
 use Rattle.tile.specs.Slots.{tiles, tilesIn}
 use Rattle.tile.proofs.SlotTiles.{tilesIn-in}
-use Rattle.quadtree.specs.Raster.{accountAt, Quadrant}
+use Rattle.quadtree.specs.Raster.{Aligned, accountAt, Quadrant}
 use Rattle.quadtree.specs.Valid.{Valid}
 use Rattle.quadtree.proofs.Alignment.{area-pos, area-mono}
 use Rattle.quadtree.proofs.Shown.{accountAt-rest}
@@ -32,9 +31,10 @@ use Rattle.quadtree.proofs.ValidLaws.{valid-quadrant}
 use Rattle.bed.specs.declared.Kind.{Kind}
 use Rattle.bed.specs.declared.Kind.the-variants.{Rows, Morton}
 use Rattle.bed.specs.declared.Scan.{Scan}
-use Rattle.bed.specs.Places.{placeOf, scanned}
-use Rattle.bed.proofs.PlaceLaws.{placeOf-lt, placeOf-last}
-use Rattle.scan_check.specs.Opening.{unscannedIn, coversUnscanned}
+use Rattle.bed.specs.Places.{placeOf, unscannedIn}
+use Rattle.bed.proofs.PlaceLaws.{placeOf-lt}
+use Rattle.bed.proofs.ScannedBlocks.{test-unscanned}
+use Rattle.scan_check.specs.Opening.{coversUnscanned}
 
 module _ (k : Kind) (n z x y : ℕ) (e : k ≡ Rows) (h : n ≤ highestOrder) (l : z < 4 ^ n) (ex : x ≡ row sideBits z) (ey : y ≡ column sideBits z) where
   row-is : x ≡ row n z
@@ -65,20 +65,6 @@ pub place-morton : (k : Kind) (n z : ℕ) → k ≡ Morton → z ≡ placeOf k n
 unfolding placeOf
 place-morton k n z e = rw e
 
-test-unscanned : (k : Kind) (n s : ℕ) (t : Tile) → Test (Some (λ z. placeOf k n z < s → ⊥) (t .corner) (4 ^ t .size)) (unscannedIn k n s t)
-unfolding scanned
-test-unscanned k n s t = test-some (λ z. test-not (test-leb (suc (placeOf k n z)) s)) (t .corner) (4 ^ t .size)
-
-pub unscanned-last : (k : Kind) (n s : ℕ) (t : Tile) → Quadrant n t → leb s (placeOf k n (stop t - 1)) ≡ unscannedIn k n s t
-unscanned-last k n s t q = test-alike (test-leb s (placeOf k n (stop t - 1))) (test-unscanned k n s t)
-    (λ h. (stop t - 1, omega (arith, area-pos (t .size)), omega (arith, area-pos (t .size)), λ l. omega arith))
-    (λ w. elim (decLt (w .0 + 1) (stop t)) [
-      | yes l ↦ elim (decLt (placeOf k n (w .0)) s) [ yes g ↦ absurd (w .3 g) | no g ↦ omega (arith, placeOf-last k n (w .0) (q .aligned) (w .1) l (quadrant-stop q)) ]
-      | no l ↦
-          let e : w .0 ≡ stop t - 1 = omega (arith, w .2) in
-          elim (decLt (placeOf k n (w .0)) s) [ yes g ↦ absurd (w .3 g) | no g ↦ omega (arith, ap (placeOf k n) e) ]
-    ])
-
 module _ (slots : List ℕ) (t i : ℕ) (h : i < t) (l : t ≤ length slots) where
   pub word-quadrant : {n : ℕ} → Valid n (tilesIn t slots) → Quadrant n (tileOf (getD slots i 0))
   word-quadrant v = valid-quadrant v (tilesIn-in t slots i h l)
@@ -88,7 +74,7 @@ module _ (slots : List ℕ) (t i : ℕ) (h : i < t) (l : t ≤ length slots) whe
 
   module _ (c : Scan) where
     abbrev one : Bool
-    one = unscannedIn (c .kind) (c .order) (c .pixels) (tileOf (getD slots i 0))
+    one = unscannedIn (c .kind) (c .order) (c .pixels) (tileOf (getD slots i 0) .corner) (tileOf (getD slots i 0) .size)
 
     opened : coversUnscanned c (tiles (drop i (take t slots))) ≡ (one || coversUnscanned c (tiles (drop (i + 1) (take t slots))))
     unfolding coversUnscanned
@@ -114,5 +100,5 @@ pub covers-blank : (c : Scan) (ts : List Tile) → coversUnscanned c ts ≡ fals
 unfolding coversUnscanned accountAt
 covers-blank c [] e z g = refl
 covers-blank c (t ∷ ts) e z g =
-    let q = neither (unscannedIn (c .kind) (c .order) (c .pixels) t) (coversUnscanned c ts) e in
-    accountAt-rest t ts z (λ h. told-false (test-unscanned (c .kind) (c .order) (c .pixels) t) (q .0) (z, h .0, h .1, λ l. omega arith)) ∙ covers-blank c ts (q .1) z g
+    let q = neither (unscannedIn (c .kind) (c .order) (c .pixels) (t .corner) (t .size)) (coversUnscanned c ts) e in
+    accountAt-rest t ts z (λ h. told-false (test-unscanned (c .kind) (c .order) (c .pixels) (t .corner) (t .size)) (q .0) (z, h .0, h .1, λ l. omega arith)) ∙ covers-blank c ts (q .1) z g

@@ -1,13 +1,15 @@
-// The checks that a call on a scan begins with, its opening checks: those of its list, then 21 and 22 of its record.
+// The checks of a scan: the opening checks, those of its list and then 21 and 22 of its record; and 52, that what a
+// call asks for is scanned, a function for each thing asked.
 ghost use mathlib.Core.Path.{_≡_};
 ghost use Prim.Native.Nat.{_^_, _<_, _≤_};
 ghost use lib.ListN.{length};
 ghost use Rattle.tile.specs.Tile.{tileOf, highestOrder};
 ghost use Rattle.tile.specs.Slots.{tilesIn};
-ghost use Rattle.quadtree.specs.Raster.{Quadrant};
+ghost use Rattle.quadtree.specs.Raster.{Aligned, Quadrant};
 ghost use Rattle.quadtree.specs.Valid.{Valid};
-ghost use Rattle.bed.specs.Places.{placeOf};
-ghost use Rattle.scan_check.specs.Opening.{unscannedIn, coversUnscanned, opening};
+ghost use Rattle.bed.specs.Places.{placeOf, unscannedIn};
+ghost use Rattle.scan_check.specs.Opening.{coversUnscanned, opening};
+ghost use Rattle.scan_check.specs.Scanned.{scannedCheck, blockScannedCheck, finishedCheck};
 
 // How many places come before that of the pixel z.
 fn place(kind: bed::Kind, order: u32, z: u32) -> u32
@@ -20,12 +22,20 @@ fn place(kind: bed::Kind, order: u32, z: u32) -> u32
     }
 }
 
-// Whether the tile of a word covers a pixel that is not scanned: its last pixel comes last in the scan.
+// Whether a block has a pixel that is not scanned: its last pixel comes last in the scan, whatever the kind.
+fn unscanned_in(kind: bed::Kind, order: u32, pixels: u32, corner: u32, size: u32) -> bool
+    requires { ⌜ (order ≤ highestOrder) × (size ≤ order) × (corner < 4 ^ order) × Aligned size corner ⌝ }
+    ensures { λ r. ⌜ r ≡ unscannedIn kind order pixels corner size ⌝ }
+{
+    pixels <= place(kind, order, corner + tile::area(size) - 1)
+}
+
+// Whether the tile of a word covers a pixel that is not scanned.
 fn covers(kind: bed::Kind, order: u32, pixels: u32, word: u32) -> bool
     requires { ⌜ (order ≤ highestOrder) × Quadrant order (tileOf word) ⌝ }
-    ensures { λ r. ⌜ r ≡ unscannedIn kind order pixels (tileOf word) ⌝ }
+    ensures { λ r. ⌜ r ≡ unscannedIn kind order pixels (tileOf word .corner) (tileOf word .size) ⌝ }
 {
-    pixels <= place(kind, order, tile::stop(word) - 1)
+    unscanned_in(kind, order, pixels, tile::corner(word), tile::size(word))
 }
 
 // Whether a tile of the list covers a pixel that is not scanned.
@@ -48,7 +58,8 @@ fn covers_unscanned(scan: bed::Scan, slots: &[u32]) -> bool
     false
 }
 
-// All of them: 1, 2 and 11 to 16 of the list, then 21 and 22 of the record.
+// The opening checks: 1, 2 and 11 to 16 of the list, then 21 and 22 of the record. Once all pixels are scanned, no list
+// meets 22.
 pub fn open_check(scan: bed::Scan, slots: &[u32]) -> u32
     ensures { λ r. ⌜ r ≡ opening scan (now (slots .entry)) ⌝ }
 {
@@ -57,11 +68,52 @@ pub fn open_check(scan: bed::Scan, slots: &[u32]) -> u32
     if number != refusal::ACCEPTED {
         return number;
     }
-    if tile::area(order) < scan.pixels {
+    let area = tile::area(order);
+    if area < scan.pixels {
         return refusal::SCANNED_TOO_LARGE;
+    }
+    if area == scan.pixels {
+        return refusal::ACCEPTED;
     }
     if covers_unscanned(scan, slots) {
         return refusal::TILE_UNSCANNED;
     }
     refusal::ACCEPTED
+}
+
+// 52: the pixel asked, by its Morton number, is scanned.
+pub fn pixel(scan: bed::Scan, z: u32) -> u32
+    requires { ⌜ (scan .order ≤ highestOrder) × (z < 4 ^ scan .order) ⌝ }
+    ensures { λ r. ⌜ r ≡ scannedCheck scan z ⌝ }
+{
+    let kind = scan.kind;
+    let place = place(kind, scan.order, z);
+    if scan.pixels <= place {
+        return refusal::UNSCANNED;
+    }
+    refusal::ACCEPTED
+}
+
+// 52: the block asked is wholly scanned.
+pub fn block(scan: bed::Scan, corner: u32, size: u32) -> u32
+    requires { ⌜ (scan .order ≤ highestOrder) × (size ≤ scan .order) × (corner < 4 ^ scan .order)
+        × Aligned size corner ⌝ }
+    ensures { λ r. ⌜ r ≡ blockScannedCheck scan corner size ⌝ }
+{
+    let kind = scan.kind;
+    if unscanned_in(kind, scan.order, scan.pixels, corner, size) {
+        return refusal::UNSCANNED;
+    }
+    refusal::ACCEPTED
+}
+
+// 52: the scan to be written has every pixel.
+pub fn finished(scan: bed::Scan) -> u32
+    requires { ⌜ scan .order ≤ highestOrder ⌝ }
+    ensures { λ r. ⌜ r ≡ finishedCheck scan ⌝ }
+{
+    if scan.pixels == tile::area(scan.order) {
+        return refusal::ACCEPTED;
+    }
+    refusal::UNSCANNED
 }

@@ -22,9 +22,9 @@ use Rattle.bed.specs.declared.Kind.the-variants.{Morton}
 use Rattle.bed.specs.declared.Scan.{Scan}
 use Rattle.bed.specs.Places.{placeOf}
 use Rattle.bed.specs.Bed as bed
+use Rattle.bed.specs.Bed.{shownBed}
 use Rattle.scan_gap.specs.Gap.{held, Fits, Low}
 use Rattle.scan_gap.proofs.Parts.{held-front}
-use Rattle.scan_feed.specs.Shown.{shownBed}
 use Rattle.scan_check.specs.Opened.{Opened}
 use Rattle.scan_feed.specs.Feeding.{Trails, Holds, SteppedOn, Stepped, FedTo}
 use Rattle.scan_feed.specs.declared.AfterPixel.{AfterPixel}

@@ -5,10 +5,9 @@ ghost use lib.ListN.{length};
 ghost use Rattle.morton.specs.Morton.{morton, sideBits};
 ghost use Rattle.tile.specs.Tile.{highestOrder, highestAccount};
 ghost use Rattle.bed.specs.Places.{pixelAt};
-ghost use Rattle.bed.specs.Bed.{feedPixels};
+ghost use Rattle.bed.specs.Bed.{shownBed, feedPixels};
 ghost use Rattle.quadtree.specs.Tiling.{Levels};
 ghost use Rattle.scan_gap.specs.Gap.{Fits, Placed};
-ghost use Rattle.scan_feed.specs.Shown.{shownBed};
 ghost use Rattle.scan_check.specs.Opened.{Opened};
 ghost use Rattle.scan_feed.specs.Feeding.{AtPlace, Trails, Stepped, FedTo};
 

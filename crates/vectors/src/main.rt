@@ -21,7 +21,7 @@ fn wide(x: u8) -> usize {
 // first.
 fn file_of(scan: Scan, slots: &[u32]) {
     let mut file = [0u8; 64];
-    let written = mapfile_write::write(scan.order, scan.tiles, slots, &mut file);
+    let written = mapfile_write::write(scan, slots, &mut file);
     line(
         b"M's file: number, bytes",
         written.number as usize,
@@ -41,13 +41,13 @@ fn file_of(scan: Scan, slots: &[u32]) {
 
 // "On M column 3 passes, 4 gives 31."
 fn lookups(scan: Scan, slots: &[u32]) {
-    let inside = lookup::lookup(scan.order, scan.tiles, slots, 3, 1);
+    let inside = lookup::lookup(scan, slots, 3, 1);
     line(
         b"M, column 3, row 1: number, account",
         inside.number as usize,
         inside.account as usize,
     );
-    let outside = lookup::lookup(scan.order, scan.tiles, slots, 4, 1);
+    let outside = lookup::lookup(scan, slots, 4, 1);
     line(
         b"M, column 4, row 1: number, account",
         outside.number as usize,

@@ -65,5 +65,6 @@ pub record Starred : Type 0 where
   -- (12, size 0) is empty at position 3
   pub M-no-part : partOf 2 4 wordsM 12 0 ≡ record { number = accepted; position = 3; length = 0 }
   -- on M, releasing (3, size 0) leaves six tiles, the first three (0,0,5) (1,0,5) (2,0,5)
-  pub M-release : claimOf 2 4 slotsM 3 0 0 .answer ≡ record { number = accepted; tiles = 6 }
-  pub M-released : take 3 (tilesIn 6 (claimOf 2 4 slotsM 3 0 0 .storage)) ≡ tile 0 0 5 ∷ tile 1 0 5 ∷ tile 2 0 5 ∷ []
+  pub M-release : claimOf (scanOf Rows 2 16 4) slotsM 3 0 0 .answer ≡ record { number = accepted; tiles = 6 }
+  pub M-released : take 3 (tilesIn 6 (claimOf (scanOf Rows 2 16 4) slotsM 3 0 0 .storage))
+      ≡ tile 0 0 5 ∷ tile 1 0 5 ∷ tile 2 0 5 ∷ []

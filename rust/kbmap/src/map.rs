@@ -39,7 +39,7 @@ pub fn summary(bed: &Bed<Vec<u32>>) -> String {
     format!("order {}, {square}, {tiles}", bed.order())
 }
 
-/// The file of a bed.
+/// The file of a bed; one that is not wholly scanned is refused.
 pub fn file_of(bed: &Bed<Vec<u32>>) -> Result<Vec<u8>, Refusal> {
     let mut file = vec![0; bed.file_room()];
     let length = bed.write(&mut file)?;

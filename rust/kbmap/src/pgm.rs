@@ -8,7 +8,8 @@ const ONE_BYTE: u32 = 255;
 /// Values on a line of a plain picture. A row of a larger bed takes several lines, as the format asks for short ones.
 const VALUES: usize = 16;
 
-/// A picture of a bed: its order, the grey that counts as white, and the grey values row after row.
+/// A picture of a bed: its order, the grey that counts as white, and the grey values row after row. They are fewer than
+/// the bed's pixels if the picture ends early.
 #[derive(Debug, PartialEq, Eq)]
 pub struct Picture {
     pub order: u32,
@@ -106,30 +107,31 @@ impl<'a> Items<'a> {
         }
     }
 
-    /// The pixels of a raw picture: one blank, then a byte for each, and nothing behind them.
+    /// The pixels of a raw picture, as far as it goes: one blank, then a byte for each, and nothing behind them.
     fn raw(&mut self, side: usize) -> Result<Vec<u8>, String> {
         if !self.next().is_some_and(|byte| byte.is_ascii_whitespace()) {
             return Err(format!("the header does not end with a blank at byte {}", self.at));
         }
         let (rest, pixels) = (&self.bytes[self.at..], side * side);
-        if rest.len() != pixels {
+        if rest.len() > pixels {
             return Err(format!("{pixels} bytes should follow the header, from byte {}; {} do", self.at, rest.len()));
         }
         Ok(rest.to_vec())
     }
 
-    /// The pixels of a plain picture: a number for each, and nothing behind them but blanks.
+    /// The pixels of a plain picture, as far as it goes: a number for each, and nothing behind them but blanks.
     fn plain(&mut self, side: usize) -> Result<Vec<u8>, String> {
         let mut greys = Vec::with_capacity(side * side);
-        while greys.len() < side * side {
+        self.skip();
+        while greys.len() < side * side && self.at < self.bytes.len() {
             let number = self.number();
             match number.map(u8::try_from) {
                 Some(Ok(grey)) => greys.push(grey),
                 Some(Err(_)) => return Err(format!("{}: a grey value above the maxval", spot(greys.len(), side))),
                 None => return Err(format!("{}: no grey value at byte {}", spot(greys.len(), side), self.at)),
             }
+            self.skip();
         }
-        self.skip();
         match self.bytes.get(self.at) {
             None => Ok(greys),
             Some(_) => Err(format!("more follows the last pixel, at byte {}", self.at)),
@@ -211,14 +213,26 @@ mod tests {
 
     #[test]
     fn bad_pixels() {
-        assert_eq!(wrong(b"P5 2 2 63\nabc"), "4 bytes should follow the header, from byte 10; 3 do");
         assert_eq!(wrong(b"P5 2 2 63\r\nabcd"), "4 bytes should follow the header, from byte 10; 5 do");
         assert_eq!(wrong(b"P5 2 2 9\n\0\0\x0a\0"), "column 0, row 1: grey value 10 is above the picture's maxval, 9");
         assert_eq!(wrong(b"P2 2 2 9 1 2 3 10"), "column 1, row 1: grey value 10 is above the picture's maxval, 9");
         assert_eq!(wrong(b"P2 2 2 9 1 2 300 4"), "column 0, row 1: a grey value above the maxval");
-        assert_eq!(wrong(b"P2 2 2 9 1 2 3"), "column 1, row 1: no grey value at byte 14");
         assert_eq!(wrong(b"P2 2 2 9 1 -2 3 4"), "column 1, row 0: no grey value at byte 11");
+        assert_eq!(wrong(b"P2 2 2 9 1 2 3 99999999999"), "column 1, row 1: no grey value at byte 26");
         assert_eq!(wrong(b"P2 2 2 9 1 2 3 4 5"), "more follows the last pixel, at byte 17");
+    }
+
+    /// The pixels that are there, and no more.
+    #[test]
+    fn pictures_that_end_early() {
+        let picture = |bytes: &[u8]| read(bytes).map(|picture| (picture.order, picture.greys));
+        assert_eq!(picture(b"P5 2 2 63\n\x07\x08\x09"), Ok((1, vec![7, 8, 9])));
+        assert_eq!(picture(b"P5 2 2 63\n"), Ok((1, vec![])));
+        for text in ["P2 2 2 9 7 8 9", "P2 2 2 9 7 8 9\n", "P2 2 2 9\n7 8 9 # and no more"] {
+            assert_eq!(picture(text.as_bytes()), Ok((1, vec![7, 8, 9])), "{text}");
+        }
+        assert_eq!(picture(b"P2 2 2 9 # none\n"), Ok((1, vec![])));
+        assert_eq!(picture(b"P2 2 2 9"), Ok((1, vec![])));
     }
 
     #[test]

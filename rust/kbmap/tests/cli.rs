@@ -189,6 +189,30 @@ fn scan_refuses() {
     assert!(scratch.names().is_empty());
 }
 
+/// A picture that ends early is a scan that is not finished: no map file, and no pixel of it taken as nobody's.
+#[test]
+fn scan_refuses_unfinished() {
+    let scratch = Scratch::new();
+    let refusal = "refused, 52 UNSCANNED: the pixel, the block or the bed is not wholly scanned yet";
+    let ends = |at: &str, scanned: &str| {
+        refused(&format!("kbmap: standard input: {refusal}\n  the picture ends before {at}: {scanned} scanned\n"))
+    };
+    for cut in [&b"P5 2 2 63\n\x07\x07\0"[..], b"P2 2 2 63 7 7 0\n", b"P2 2 2 63\n7 7 0 # and no more"] {
+        assert_eq!(scratch.fed("scan - -o x.map", cut), ends("column 1, row 1", "3 of 4 pixels"));
+    }
+    assert_eq!(scratch.fed("scan - -o -", b"P5 1 1 63\n"), ends("column 0, row 0", "0 of 1 pixel"));
+    for pixels in 0..16 {
+        let cut = &PICTURE[..PICTURE.len() - 16 + pixels];
+        let (column, row) = (pixels % 4, pixels / 4);
+        let expected = ends(&format!("column {column}, row {row}"), &format!("{pixels} of 16 pixels"));
+        assert_eq!(scratch.fed("scan - -o x.map", cut), expected);
+    }
+    // What is wrong with a pixel that is there is told first.
+    let bright = scratch.fed("scan - -o x.map", b"P2 2 2 255 1 64");
+    assert!(bright.status == 1 && bright.err.contains("refused, 24 "), "{}", bright.err);
+    assert!(scratch.names().is_empty());
+}
+
 #[test]
 fn claim_and_release() {
     let scratch = Scratch::with_bed();

@@ -2,7 +2,8 @@
 
 use crate::lent::{Brief, Lent};
 use crate::pair::{flat, record_of, same, some, At, Count};
-use crate::plain::{area, bed, list, Record};
+use crate::plain::bed::Bed as Plain;
+use crate::plain::{area, list, Record};
 use crate::random::{palette, Built, Random};
 use kingletbed::{raw, Bed, Choice};
 
@@ -23,7 +24,8 @@ pub fn garbage(random: &mut Random, least: usize, most: usize) -> Vec<u32> {
 }
 
 impl Count {
-    /// The number and the tile count. Where both maps have the same slice, the library is lent one slice too.
+    /// The number and the tile count. Where both maps have the same slice, the library is lent one slice too. The scan
+    /// of a third bed is that of the first.
     pub fn combine<'a>(
         &mut self,
         choice: u32,
@@ -34,27 +36,27 @@ impl Count {
         let (first, second) = (first.into(), second.into());
         let before = out.clone();
         let given = (choice, first, second, Brief(&before));
-        let map = |at: At<'a>| (at.order, at.tiles, at.slots);
+        let map = |at: At<'a>| (at.record.order, at.record.tiles, at.slots);
+        let ((order1, tiles1, _), (order2, tiles2, _)) = (map(first), map(second));
         let (number, tiles, after) = list::combine(choice, map(first), map(second), &before);
         let (one, apart) = (Lent::new(first.slots), Lent::new(second.slots));
         let two = if std::ptr::eq(first.slots, second.slots) { &one } else { &apart };
         let mut lent = Lent::new(&before);
         let (slots1, slots2) = (one.as_ref(), two.as_ref());
-        let answer =
-            raw::combine(choice, first.order, first.tiles, slots1, second.order, second.tiles, slots2, lent.as_mut());
+        let answer = raw::combine(choice, order1, tiles1, slots1, order2, tiles2, slots2, lent.as_mut());
         same("combine", &given, (answer.number, answer.tiles), (number, tiles));
         lent.must_be("combine", &given, &after);
         one.must_be("combine, the first map", &given, first.slots);
         two.must_be("combine, the second map", &given, second.slots);
-        let record = Record { kind: 0, order: first.order, pixels: area(first.order.min(10)) as u32, tiles };
-        for (one, two) in first.beds().flat_map(|one| second.beds().map(move |two| (one.clone(), two))) {
+        for (one, two) in first.lists().flat_map(|one| second.lists().map(move |two| (one.clone(), two))) {
             let mut lent = Lent::new(&before);
+            let record = one.as_ref().map_or(first.record, |one| Record { tiles, ..record_of(one) });
             let combined = one.and_then(|one| Bed::combine(choice_of(choice), &one, &two?, lent.as_mut()));
             same("combine of beds", &given, flat(combined.map(|bed| record_of(&bed))), some(number, record));
             lent.must_be("combine of beds", &given, &after);
         }
         *out = after;
-        self.add(number);
+        self.add("combine", number);
         (number, tiles)
     }
 
@@ -64,10 +66,13 @@ impl Count {
         &mut self,
         random: &mut Random,
         choice: u32,
-        first: (u32, usize, &'a [u32]),
-        second: (u32, usize, &'a [u32]),
+        first: impl Into<At<'a>>,
+        second: impl Into<At<'a>>,
     ) -> Vec<u32> {
-        let (number, tiles, _) = list::combine(choice, first, second, &vec![0; area(first.0) as usize]);
+        let (first, second) = (first.into(), second.into());
+        let map = |at: At<'a>| (at.record.order, at.record.tiles, at.slots);
+        let most = vec![0; area(first.record.order) as usize];
+        let (number, tiles, _) = list::combine(choice, map(first), map(second), &most);
         assert_eq!(number, 0, "4^order slots always suffice");
         if tiles > 0 {
             let mut few = garbage(random, tiles - 1, tiles - 1);
@@ -84,8 +89,7 @@ impl Count {
 
 /// The list of a raster.
 pub fn words(order: u32, raster: &[u8]) -> Vec<u32> {
-    let bed = bed::Bed { order, kind: 0, scanned: 0, accounts: raster.to_vec() };
-    bed.blocks().iter().map(|tile| tile.word()).collect()
+    Plain::whole(order, raster.to_vec()).blocks().iter().map(|tile| tile.word()).collect()
 }
 
 /// A second map for a first: of its own, the same ground with other accounts, the ground that the first leaves, the
@@ -114,17 +118,18 @@ pub fn second(random: &mut Random, order: u32, first: &[u8]) -> Vec<u32> {
     words(order, &raster)
 }
 
-/// Good maps of one order, either way round, and a slice with itself, its tiles counted in full or in part.
+/// Good maps of one order, either way round, and a slice with itself, its tiles counted in full or in part. The scan of
+/// the first may be unfinished.
 pub fn case(random: &mut Random, count: &mut Count) {
     let order = random.pick(&[0, 1, 1, 2, 2, 3, 3, 4, 5]);
     let (accounts, splits) = (palette(random), random.between(0, 7));
-    let built = Built::random(random, order, &accounts, splits);
+    let (record, built) = Built::random(random, order, &accounts, splits).scan(random);
     let (tiles1, mut slots1) = (built.words.len(), built.words.clone());
     let mut slots2 = second(random, order, &built.raster);
     let tiles2 = slots2.len();
     slots1.extend(garbage(random, 0, 3));
     slots2.extend(garbage(random, 0, 3));
-    let (first, second) = ((order, tiles1, &slots1[..]), (order, tiles2, &slots2[..]));
+    let (first, second) = ((record, &slots1), (order, tiles2, &slots2));
     let (either, other) = (random.pick(&CHOICES), random.pick(&CHOICES[4..]));
     let inside = count.combine_rooms(random, 0, first, second);
     let outside = count.combine_rooms(random, other, first, second);
@@ -133,7 +138,7 @@ pub fn case(random: &mut Random, count: &mut Count) {
     // One slice for both: all of a map is inside itself, and nothing outside.
     assert_eq!(count.combine_rooms(random, 0, first, first), built.words);
     assert_eq!(count.combine_rooms(random, 1, first, first), []);
-    let fewer = (order, random.below(tiles1 + 1), &slots1[..]);
+    let fewer = (order, random.below(tiles1 + 1), &slots1);
     count.combine_rooms(random, either, first, fewer);
     count.combine_rooms(random, either, fewer, first);
     // What was taken from inside the second map has nothing outside it.

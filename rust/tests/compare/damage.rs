@@ -4,41 +4,52 @@ use crate::combine::{garbage, CHOICES};
 use crate::pair::{At, Count};
 use crate::plain::{area, file as plain_file, Record, Tile};
 use crate::random::{palette, Built, Random};
-use crate::sequences::{ask, block};
+use crate::sequences::{ask, block_near};
 
-/// A list that may be bad.
+/// A record and a list that may be bad.
 struct Bad {
-    order: u32,
-    tiles: usize,
+    record: Record,
     slots: Vec<u32>,
 }
 
 impl Bad {
-    /// A list of a bed of an order that was damaged once or twice, or not at all.
+    /// A scan of a bed of an order whose list was damaged once or twice, or not at all.
     fn random(random: &mut Random, order: u32) -> Bad {
         let splits = random.between(2, 7);
         let accounts = palette(random);
-        let mut words = Built::random(random, order, &accounts, splits).words;
+        let (record, Built { mut words, .. }) = Built::random(random, order, &accounts, splits).scan(random);
         for _ in 0..random.below(3) {
             list(random, &mut words, order);
         }
-        let mut bad = Bad { order, tiles: words.len(), slots: words };
+        let mut bad = Bad { record: Record { tiles: words.len(), ..record }, slots: words };
         bad.slots.extend((0..random.below(4)).map(|_| 0x3fff_ffff));
         match random.below(12) {
-            0 => bad.order = random.pick(&[0, 1, 3, 10, 11, 255, 256, 257, u32::MAX]),
-            1 => bad.tiles = bad.slots.len() + random.pick(&[0, 1, 2, usize::MAX / 2 - 100]),
-            2 => bad.tiles = random.below(bad.slots.len() + 1),
+            0 => bad.record.order = random.pick(&[0, 1, 3, 10, 11, 255, 256, 257, u32::MAX]),
+            1 => bad.record.tiles = bad.slots.len() + random.pick(&[0, 1, 2, usize::MAX / 2 - 100]),
+            2 => bad.record.tiles = random.below(bad.slots.len() + 1),
+            3 | 4 => bad.record.pixels = pixels(random, order),
+            5 => bad.record.kind = random.below(3) as u32,
             _ => {}
         }
         bad
     }
 
     fn at(&self) -> At<'_> {
-        (self.order, self.tiles, &self.slots).into()
+        (self.record, &self.slots).into()
     }
 }
 
-/// Every call on a list that was damaged once or twice.
+/// Pixels that need not go with a list, and may be more than the bed has.
+fn pixels(random: &mut Random, order: u32) -> u32 {
+    let most = area(order.min(6)) as u32;
+    match random.below(4) {
+        0 | 1 => random.below(most as usize + 1) as u32,
+        2 => most + random.below(3) as u32,
+        _ => u32::MAX - random.below(3) as u32,
+    }
+}
+
+/// Every call on a scan whose list was damaged once or twice, or whose record does not go with it.
 pub fn list_case(random: &mut Random, count: &mut Count) {
     let order = random.pick(&[0, 1, 2, 2, 3, 3, 4, 5]);
     let mut bad = Bad::random(random, order);
@@ -46,23 +57,11 @@ pub fn list_case(random: &mut Random, count: &mut Count) {
     for _ in 0..4 {
         ask(random, count, bad.at());
     }
-    let most = area(bad.order.min(6)) as usize;
-    let record = Record {
-        kind: random.below(2) as u32,
-        order: bad.order,
-        pixels: match random.below(4) {
-            0 => random.below(most + 1) as u32,
-            1 => most as u32 + random.below(3) as u32,
-            2 => u32::MAX - random.below(3) as u32,
-            _ => most as u32,
-        },
-        tiles: bad.tiles,
-    };
     let fed: Vec<u8> = (0..random.below(6)).map(|_| random.below(66) as u8).collect();
-    count.feed(record, &mut bad.slots.clone(), &fed);
-    let (corner, size) = block(random, bad.order);
+    count.feed(bad.record, &mut bad.slots.clone(), &fed);
+    let (corner, size) = block_near(random, bad.record);
     let account = random.below(66) as u8;
-    count.claim((bad.order, bad.tiles), &mut bad.slots, corner, size, account);
+    count.claim(bad.record, &mut bad.slots, corner, size, account);
 }
 
 /// Two lists of which either, both or none may be bad, combined both ways round, and a slice with itself by the same
@@ -72,7 +71,7 @@ pub fn pair_case(random: &mut Random, count: &mut Count) {
     let other = if random.once_in(4) { random.pick(&[0, 1, 2, 3, 4]) } else { order };
     let (one, two) = (Bad::random(random, order), Bad::random(random, other));
     let (one, two) = (one.at(), two.at());
-    let other = At { tiles: random.below(one.slots.len() + 2), ..one };
+    let other = At { record: Record { tiles: random.below(one.slots.len() + 2), ..one.record }, ..one };
     for (first, second) in [(one, two), (two, one), (one, one), (one, other), (other, one)] {
         let mut out = garbage(random, 0, area(order) as usize + 2);
         count.combine(random.pick(&CHOICES), first, second, &mut out);

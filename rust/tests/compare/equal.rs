@@ -1,6 +1,6 @@
 //! Equality of beds, against that of their orders and rasters.
 
-use crate::pair::Count;
+use crate::pair::{bed_of, Count};
 use crate::plain::area;
 use crate::plain::bed::Bed as Plain;
 use crate::random::{palette, Built, Random};
@@ -55,7 +55,13 @@ pub fn case(random: &mut Random, count: &mut Count) {
     assert_eq!(made, one.bed);
     assert_eq!(one.bed, made);
     assert_eq!(one.bed.clone(), one.bed);
-    count.add(0);
+    // Nor does it matter how far a scan is: what is not scanned compares as nobody's.
+    let built = Built { order, words: one.bed.words().to_vec(), raster: one.raster.clone() };
+    let (record, cut) = built.scan(random);
+    let cut_short = bed_of(record, &cut.words).expect("a good record");
+    assert_eq!(cut_short, Scanned::of(random, order, cut.raster.clone()).bed);
+    assert_eq!(cut_short == one.bed, cut.raster == one.raster, "{cut_short:?} and {:?}", one.bed);
+    count.add("equal", 0);
 }
 
 /// A bed of the next order with this one in its north-west, so that the words are the same.

@@ -1,14 +1,15 @@
 //! Large beds: lists known by construction, by a rule of the bed, and by the plain implementation.
 
+use crate::changing::stopped;
 use crate::combine;
 use crate::damage;
 use crate::living::Living;
-use crate::pair::{kind_of, record_of, stopped, Count};
+use crate::pair::{kind_of, record_of, Count};
 use crate::plain::bed::Bed;
 use crate::plain::tally::Tally;
 use crate::plain::{area, left, Record};
 use crate::random::{palette, Built, Random};
-use crate::sequences::block;
+use crate::sequences::{block, block_near, front};
 use kingletbed::raw;
 
 const ORDER: u32 = 10;
@@ -124,7 +125,7 @@ fn others(random: &mut Random, count: &mut Count, raster: &[u8], words: &[u32]) 
     let mut slots = vec![1; words.len() + 100];
     assert_eq!(count.read(&file, &mut slots), (0, ORDER, words.len()));
     assert!(slots[..words.len()] == *words, "a large file read back");
-    let mut living = Living::of_list(ORDER, words.len(), &slots);
+    let mut living = Living::of_scan(Record::whole(ORDER, words.len()), &slots);
     for _ in 0..3 {
         let (corner, size) = block(random, ORDER);
         living.claim(count, corner, size, random.below(64) as u8);
@@ -139,6 +140,25 @@ fn others(random: &mut Random, count: &mut Count, raster: &[u8], words: &[u32]) 
     let mut bytes = file;
     damage::file(random, &mut bytes, words.len());
     count.read(&bytes, &mut slots);
+}
+
+/// The calls that take a record, on a scan of a large bed that is not finished, and how it goes on.
+fn unfinished(random: &mut Random, count: &mut Count, raster: &[u8]) {
+    let (kind, pixels) = (random.below(2) as u32, random.below(PIXELS) as u32);
+    let (record, built) = Built { order: ORDER, words: Vec::new(), raster: raster.to_vec() }.upto(kind, pixels);
+    let mut slots = built.words;
+    slots.resize(record.tiles + 1000, 1);
+    let mut living = Living::of_scan(record, &slots);
+    count.lookups(living.at(), front(random, record), front(random, record));
+    let (column, row) = front(random, record);
+    count.rights(living.at(), column, row, random.between(1, 63) as u8);
+    assert_eq!(count.write(living.at(), &[0xaa; 9]).0, 52);
+    for _ in 0..2 {
+        let (corner, size) = block_near(random, record);
+        living.claim(count, corner, size, random.below(64) as u8);
+    }
+    let next: Vec<u8> = in_scan_order(kind, raster)[pixels as usize..].iter().copied().take(900).collect();
+    assert_eq!(living.feed(count, &next), (0, next.len()), "a large scan goes on behind a claim");
 }
 
 /// Third maps of the regular beds by their rules. In the last all the second map's tiles, one for each pixel, merge to
@@ -187,6 +207,7 @@ pub fn patterns(random: &mut Random, count: &mut Count) {
         scans(&raster, &words, 0, piece);
         scans(&raster, &words, 1, 100_003);
         others(random, count, &raster, &words);
+        unfinished(random, count, &raster);
     }
 }
 
@@ -197,4 +218,5 @@ pub fn case(random: &mut Random, count: &mut Count) {
     let piece = random.pick(&[SIDE * 4, 33_333, PIXELS / 2 + 1]);
     scans(&built.raster, &built.words, random.below(2) as u32, piece);
     others(random, count, &built.raster, &built.words);
+    unfinished(random, count, &built.raster);
 }

@@ -1,11 +1,11 @@
 //! Every combination of arguments at and past their limits on a few maps, every bed of order 1 of three accounts, and
-//! lookups on every bed of order 2 of two and beside free blocks of every size.
+//! lookups on every bed of order 2 of two, beside free blocks of every size, and where the scan ends at one.
 
 use crate::combine::{words, CHOICES};
 use crate::living::Living;
 use crate::pair::Count;
 use crate::plain::bed::Bed;
-use crate::plain::{area, left, pixel, Record};
+use crate::plain::{area, left, pixel, Record, Tile};
 
 /// Orders, and numbers that would be good orders if they were cut down.
 const ORDERS: [u32; 13] = [0, 1, 2, 3, 9, 10, 11, 12, 255, 256, 258, 1 << 16, u32::MAX];
@@ -38,9 +38,13 @@ pub fn all(count: &mut Count) {
             count.rights((order, tiles, &slots), 3, 1, 9);
             count.decode((order, tiles, &slots), &[0xaa; 16]);
             count.write((order, tiles, &slots), &[0xaa; 40]);
-            count.claim((order, tiles), &mut slots.clone(), 4, 1, 0);
+            count.claim(Record::whole(order, tiles), &mut slots.clone(), 4, 1, 0);
             for pixels in [0, 15, 16, 17, u32::MAX] {
-                count.feed(Record { kind: 0, order, pixels, tiles }, &mut slots, &[]);
+                let record = Record { kind: 0, order, pixels, tiles };
+                count.lookup((record, &slots), 3, 1);
+                count.write((record, &slots), &[0xaa; 40]);
+                count.claim(record, &mut slots.clone(), 4, 1, 0);
+                count.feed(record, &mut slots, &[]);
             }
         }
     }
@@ -53,6 +57,7 @@ pub fn all(count: &mut Count) {
     order_one(count);
     order_two(count);
     free_sizes(count);
+    scanned_sizes(count);
     combined(count);
     combined_small(count);
 }
@@ -86,12 +91,12 @@ fn blocks(count: &mut Count, order: u32, words: &[u32]) {
             for &(account, room) in claims {
                 let mut slots = words.to_vec();
                 slots.resize(words.len() + room, 0);
-                count.claim((order, words.len()), &mut slots, corner, size, account);
+                count.claim(Record::whole(order, words.len()), &mut slots, corner, size, account);
             }
         }
     }
     for account in ACCOUNTS {
-        count.claim((order, words.len()), &mut words.to_vec(), 0, order, account);
+        count.claim(Record::whole(order, words.len()), &mut words.to_vec(), 0, order, account);
     }
 }
 
@@ -126,15 +131,32 @@ fn records(count: &mut Count, order: u32, words: &[u32]) {
     let feeds = &[&[63][..], &[255, 1], &[], &[0], &[64]][..if order < 10 { 5 } else { 2 }];
     for &kind in kinds {
         for pixels in [0, end / 2, end - 1, end, end + 1, 1 << 20, 1 << 31, u32::MAX] {
-            for fed in feeds {
-                for room in [0, 1] {
-                    let mut slots = words.to_vec();
-                    slots.resize(words.len() + room, 0x1234);
-                    count.feed(Record { kind, order, pixels, tiles: words.len() }, &mut slots, fed);
-                }
+            let record = Record { kind, order, pixels, tiles: words.len() };
+            for (fed, room) in feeds.iter().flat_map(|fed| [(fed, 0), (fed, 1)]) {
+                let mut slots = words.to_vec();
+                slots.resize(words.len() + room, 0x1234);
+                count.feed(record, &mut slots, fed);
             }
+            on_record(count, record, words);
         }
     }
+}
+
+/// The calls that take a record, at both ends of the bed and in its middle.
+fn on_record(count: &mut Count, record: Record, words: &[u32]) {
+    let (at, side, end) = ((record, words), 1u32 << record.order, area(record.order) as u32);
+    count.open(at);
+    for (column, row) in [(0, 0), (side - 1, side - 1), (0, side / 2), (side, 0)] {
+        count.lookup(at, column, row);
+    }
+    count.rights(at, side - 1, side - 1, 9);
+    for (corner, size) in [(0, record.order), (end - 1, 0), (end / 4, 0)] {
+        let mut slots = words.to_vec();
+        slots.resize(words.len() + 4, 0x1234);
+        count.claim(record, &mut slots, corner, size, 9);
+        count.shown(at, corner, size);
+    }
+    count.write(at, &[0xaa; 200]);
 }
 
 /// The accounts of one of the 81 beds of order 1 with accounts 0, 1 and 2.
@@ -142,39 +164,63 @@ fn of_three(bed: u32) -> Vec<u8> {
     (0..4).map(|place| (bed / 3u32.pow(place) % 3) as u8).collect()
 }
 
-/// All beds of order 1 with accounts 0, 1 and 2, both kinds, with 0 to 4 slots; then every claim on them.
+/// All beds of order 1 with accounts 0, 1 and 2, both kinds, with 0 to 4 slots, as far as they are scanned then, and
+/// with 4 slots also ahead of each pixel.
 fn order_one(count: &mut Count) {
     for bed in 0..81 {
         let accounts = of_three(bed);
         for (kind, m) in (0..2).flat_map(|kind| (0..5).map(move |m| (kind, m))) {
             let mut living = Living::unmade(Record { kind, order: 1, pixels: 0, tiles: 0 }, vec![9; m]);
             living.fresh(count, kind, 1);
-            let answer = living.feed(count, &accounts);
             let mut plain = Bed::fresh(kind, 1).expect("order 1");
-            assert_eq!(plain.feed(m, &accounts), answer);
-            assert_eq!(left(m, &plain.blocks()), living.slots);
-            for (corner, size) in [(0, 0), (1, 0), (2, 0), (3, 0), (0, 1)] {
-                for account in 0..3 {
-                    count.claim((1, living.record.tiles), &mut living.slots.clone(), corner, size, account);
-                    count.part(living.at(), corner, size);
-                    count.shown(living.at(), corner, size);
+            for accounts in accounts.chunks(if m < 4 { 4 } else { 1 }) {
+                if m == 4 {
+                    on_order_one(count, &living);
                 }
+                assert_eq!(living.feed(count, accounts), plain.feed(m, accounts));
+                assert_eq!(left(m, &plain.blocks()), living.slots);
             }
-            for (one, two) in pairs(&[(0, 0), (1, 0), (0, 1), (1, 1)]) {
-                count.lookups(living.at(), one, two);
-            }
+            on_order_one(count, &living);
         }
     }
 }
 
-/// Every bed of order 2 of nobody's pixels and one account's, each pixel looked up.
+/// Every claim on a bed of order 1, every block, and every two pixels.
+fn on_order_one(count: &mut Count, living: &Living) {
+    for (corner, size) in [(0, 0), (1, 0), (2, 0), (3, 0), (0, 1)] {
+        for account in 0..3 {
+            count.claim(living.record, &mut living.slots.clone(), corner, size, account);
+        }
+        count.part(living.at(), corner, size);
+        count.shown(living.at(), corner, size);
+    }
+    for (one, two) in pairs(&[(0, 0), (1, 0), (0, 1), (1, 1)]) {
+        count.lookups(living.at(), one, two);
+    }
+}
+
+/// Every bed of order 2 of nobody's pixels and one account's, each pixel looked up; and scans of both kinds as far as
+/// each pixel, every one up to the ninth and some of the longer ones.
 fn order_two(count: &mut Count) {
-    for bed in 0..1u32 << 16 {
-        let accounts = (0..16).map(|pixel| (bed >> pixel & 1) as u8).collect();
-        let tiles = Bed { order: 2, kind: 0, scanned: 16, accounts }.blocks();
-        let words: Vec<u32> = tiles.iter().map(|tile| tile.word()).collect();
+    let bed = |bits: u32| (0..16).map(|pixel| (bits >> pixel & 1) as u8).collect::<Vec<u8>>();
+    for bits in 0..1 << 16 {
+        let words = words(2, &bed(bits));
         for pixel in 0..16 {
             count.lookup((2, words.len(), &words), pixel % 4, pixel / 4);
+        }
+    }
+    for (kind, pixels) in (0..2).flat_map(|kind| (0..=16).map(move |pixels| (kind, pixels))) {
+        for bits in 0..1u32 << pixels.min(9) {
+            // A longer scan has the bits at either end.
+            let bits = bits << (pixels - pixels.min(9)) | bits;
+            let places = Bed::fresh(kind, 2).expect("order 2");
+            let mut raster = vec![0; 16];
+            (0..pixels).for_each(|place| raster[places.index_of_place(place.into())] = (bits >> place & 1) as u8);
+            let words = words(2, &raster);
+            let record = Record { kind, order: 2, pixels, tiles: words.len() };
+            for pixel in 0..16 {
+                count.lookup((record, &words), pixel % 4, pixel / 4);
+            }
         }
     }
 }
@@ -187,6 +233,26 @@ fn free_sizes(count: &mut Count) {
             let (number, named) = count.lookup((10, 1, &[held as u32 * 1024 + 7]), column as u32, row as u32);
             assert_eq!((number, named.size, named.account), (0, size, 0), "{held}, {beside}");
         }
+    }
+}
+
+/// Free blocks of every size on the largest bed where nothing is held: the scan has just come to their end, or lacks a
+/// pixel of it.
+fn scanned_sizes(count: &mut Count) {
+    for (kind, size) in (0..2).flat_map(|kind| (0..=10).map(move |size| (kind, size))) {
+        // The second block of a size from the north-west, or the whole bed: its last place by rows and by Morton order.
+        let wide = 1u32 << size;
+        let (column, row) = if size < 10 { (2 * wide - 1, wide - 1) } else { (wide - 1, wide - 1) };
+        let corner = if size < 10 { area(size) } else { 0 };
+        let last = if kind == 0 { row * 1024 + column } else { (corner + area(size)) as u32 - 1 };
+        let record = Record { kind, order: 10, pixels: last + 1, tiles: 0 };
+        let none: [u32; 0] = [];
+        let named = Tile { corner, size, account: 0 };
+        assert_eq!(count.lookup((record, &none), column, row), (0, named), "{kind}, {size}");
+        let lacking = Record { pixels: last, ..record };
+        assert_eq!(count.lookup((lacking, &none), column, row).0, 52, "{kind}, {size}");
+        let (number, smaller) = count.lookup((lacking, &none), column + 1 - wide, row + 1 - wide);
+        assert_eq!((number, smaller.size), if size > 0 { (0, size - 1) } else { (52, 0) }, "{kind}, {size}");
     }
 }
 

@@ -2,9 +2,10 @@
 //! the record and the slots that the plain implementation left; after each the bed has the same record and the same
 //! slots.
 
+use crate::changing::stopped;
 use crate::combine::choice_of;
 use crate::lent::Lent;
-use crate::pair::{kind_of, record_of, same, stopped, At, Count};
+use crate::pair::{bed_of, kind_of, record_of, same, At, Count};
 use crate::plain::{area, Record};
 use kingletbed::{Account, Bed, Block};
 
@@ -21,14 +22,14 @@ impl Living {
         Living { record, slots, bed: None }
     }
 
-    /// A bed of a good list.
-    pub fn of_list(order: u32, tiles: usize, slots: &[u32]) -> Living {
-        let bed = Bed::from_slots(order, tiles, Lent::new(slots)).expect("a good list");
+    /// A bed of a good record and its slots.
+    pub fn of_scan(record: Record, slots: &[u32]) -> Living {
+        let bed = bed_of(record, Lent::new(slots)).expect("a good record");
         Living { record: record_of(&bed), slots: slots.to_vec(), bed: Some(bed) }
     }
 
     pub fn at(&self) -> At<'_> {
-        At { order: self.record.order, tiles: self.record.tiles, slots: &self.slots, held: self.bed.as_ref() }
+        At { record: self.record, slots: &self.slots, held: self.bed.as_ref() }
     }
 
     /// The slots to make another bed in: those of the bed that lives, which ends.
@@ -63,23 +64,25 @@ impl Living {
         let before = self.slots.clone();
         let (number, order, tiles) = count.read(bytes, &mut self.slots);
         if number == 0 {
-            self.record = Record { kind: 0, order, pixels: area(order) as u32, tiles };
+            self.record = Record::whole(order, tiles);
             self.bed = Some(Bed::read(bytes, self.lent(&before)).expect("accepted before"));
         }
         self.alike("a reading to the slots of a bed");
         number
     }
 
-    /// The third map takes the slots; the first, which is in them, is lent elsewhere.
+    /// The third map takes the slots; the first, which is in them, is lent elsewhere. Its scan is the first's.
     pub fn combine(&mut self, count: &mut Count, choice: u32, second: (u32, usize, &[u32])) -> u32 {
-        let (order, before) = (self.record.order, self.slots.clone());
-        let first = (order, self.record.tiles, &before[..]);
-        let (number, tiles) = count.combine(choice, first, second, &mut self.slots);
+        let (record, before) = (self.record, self.slots.clone());
+        let (number, tiles) = count.combine(choice, (record, &before), second, &mut self.slots);
         if number == 0 {
-            self.record = Record { kind: 0, order, pixels: area(order) as u32, tiles };
-            let bed = |(order, tiles, slots)| Bed::<&[u32]>::from_slots(order, tiles, slots).expect("accepted before");
-            let third = Bed::combine(choice_of(choice), &bed(first), &bed(second), self.lent(&before));
-            self.bed = Some(third.expect("accepted before"));
+            self.record = Record { kind: record.kind.min(1), tiles, ..record };
+            let zones = Bed::from_slots(second.0, second.1, second.2).expect("accepted before");
+            // Before the first accepted call the record need not go with the list: then there is no bed.
+            self.bed = bed_of(record, &before).ok().map(|first| {
+                let third = Bed::combine(choice_of(choice), &first, &zones, self.lent(&before));
+                third.expect("accepted before")
+            });
         }
         self.alike("a third map in the slots of a bed");
         number
@@ -97,8 +100,7 @@ impl Living {
     }
 
     pub fn claim(&mut self, count: &mut Count, corner: u32, size: u32, account: u8) -> u32 {
-        let at = (self.record.order, self.record.tiles);
-        let (number, tiles) = count.claim(at, &mut self.slots, corner, size, account);
+        let (number, tiles) = count.claim(self.record, &mut self.slots, corner, size, account);
         if number == 0 {
             self.record.tiles = tiles;
         }

@@ -6,6 +6,8 @@
 //!     cargo test --test compare -- --seed 12345                 the same cases again
 //!     cargo test --test compare -- --group lists --case 678     one case again, as a failure prints it
 
+mod changing;
+mod checks;
 mod combine;
 mod damage;
 mod equal;
@@ -18,11 +20,13 @@ mod pair;
 mod plain;
 mod points;
 mod random;
+mod scans;
 mod sequences;
 mod worked;
 
 use pair::Count;
 use random::Random;
+use std::collections::BTreeSet;
 use std::panic::{catch_unwind, AssertUnwindSafe};
 use std::time::{Duration, Instant, SystemTime};
 
@@ -36,16 +40,18 @@ struct Group {
 }
 
 /// Once, first.
-const ONCE: [Group; 4] = [
+const ONCE: [Group; 5] = [
     Group { name: "worked", case: |_, count| worked::lines(count), round: 1 },
+    Group { name: "checks", case: |_, count| checks::in_order(count), round: 1 },
     Group { name: "limits", case: |_, count| limits::all(count), round: 1 },
     Group { name: "every-point", case: |_, count| points::all(count), round: 1 },
     Group { name: "patterns", case: large::patterns, round: 1 },
 ];
 
 /// Round after round until the time is over.
-const ROUNDS: [Group; 8] = [
+const ROUNDS: [Group; 9] = [
     Group { name: "sequences", case: sequences::case, round: 1000 },
+    Group { name: "scans", case: scans::case, round: 500 },
     Group { name: "lists", case: damage::list_case, round: 5000 },
     Group { name: "files", case: damage::file_case, round: 5000 },
     Group { name: "combine", case: combine::case, round: 1000 },
@@ -121,15 +127,13 @@ fn main() {
             break;
         }
     }
-    let met: Vec<String> = count.numbers.iter().map(|(number, times)| format!("{number}: {times}")).collect();
+    let numbers: BTreeSet<u32> = count.met.keys().map(|&(_, number)| number).collect();
+    let met: Vec<String> = numbers.iter().map(|&number| format!("{number}: {}", count.times(number))).collect();
     println!("compare: {cases} random cases, {} calls alike; numbers met: {}", count.calls, met.join(", "));
-    if options.group.is_none() {
-        let missing: Vec<u32> =
-            kingletbed::Refusal::ALL.iter().map(|r| r.number()).filter(|n| !count.numbers.contains_key(n)).collect();
-        if !missing.is_empty() {
-            println!("compare: FAILED; these refusals were never met: {missing:?}");
-            std::process::exit(1);
-        }
+    let unmet = if options.group.is_none() { checks::unmet(&count) } else { Vec::new() };
+    if !unmet.is_empty() {
+        println!("compare: FAILED; {}", unmet.join("; "));
+        std::process::exit(1);
     }
     println!("compare: passed in {:.0} seconds", begin.elapsed().as_secs_f64());
 }

@@ -12,7 +12,7 @@ impl Count {
         let answer = raw::extent(order);
         same("extent", &order, (answer.number, answer.side, answer.pixels), plain);
         same("side", &order, flat(Block::whole(order).side()), some(plain.0, plain.1));
-        self.add(plain.0);
+        self.add("extent", plain.0);
     }
 
     fn morton(&mut self, order: u32, column: u32, row: u32) -> (u32, u32) {
@@ -25,7 +25,7 @@ impl Count {
             flat(Pixel { column, row }.morton(order)),
             some(plain.0, plain.1),
         );
-        self.add(plain.0);
+        self.add("morton", plain.0);
         plain
     }
 
@@ -41,7 +41,7 @@ impl Count {
             let has = points::has(corner, size, column, row);
             same("has", &(block, column, row), block.has(Pixel { column, row }), has);
         }
-        self.add(plain.0);
+        self.add("block", plain.0);
     }
 
     fn point(&mut self, order: u32, morton: u32) -> (u32, u32, u32) {
@@ -50,7 +50,7 @@ impl Count {
         same("point", &(order, morton), (answer.number, answer.column, answer.row), plain);
         let pixel = Pixel { column: plain.1, row: plain.2 };
         same("of_morton", &(order, morton), flat(Pixel::of_morton(order, morton)), some(plain.0, pixel));
-        self.add(plain.0);
+        self.add("point", plain.0);
         plain
     }
 
@@ -70,7 +70,7 @@ impl Count {
         same("a tile's pixel", &word, flat(tile.pixel()), some(number, Pixel { column, row }));
         let (number, side, _) = points::extent(plain.1);
         same("a tile's side", &word, flat(tile.side()), some(number, side));
-        self.add(0);
+        self.add("word", 0);
     }
 }
 

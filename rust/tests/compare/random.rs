@@ -1,4 +1,7 @@
-//! A small random generator (splitmix64), and random beds.
+//! A small random generator (splitmix64), random beds, and scans of them.
+
+use crate::plain::bed::Bed;
+use crate::plain::{area, Record};
 
 pub struct Random {
     state: u64,
@@ -50,6 +53,25 @@ impl Built {
         let mut built = Built { order, words: Vec::new(), raster: vec![0; side * side] };
         built.block(random, palette, splits, (0, 0), 0, order, None);
         built
+    }
+
+    /// A scan of this bed that has been at so many pixels: its record, and the bed with nobody's ground from there on,
+    /// whose list is the plain implementation's.
+    pub fn upto(self, kind: u32, pixels: u32) -> (Record, Built) {
+        let mut bed = Bed::upto(kind, self.order, pixels.into(), self.raster);
+        bed.accounts.iter_mut().zip(&bed.seen).filter(|(_, &seen)| !seen).for_each(|(account, _)| *account = 0);
+        let words: Vec<u32> = bed.blocks().iter().map(|tile| tile.word()).collect();
+        let record = Record { kind, order: self.order, pixels, tiles: words.len() };
+        (record, Built { order: self.order, words, raster: bed.accounts })
+    }
+
+    /// A scan of this bed by rows with every pixel, or by any kind and as far as it comes.
+    pub fn scan(self, random: &mut Random) -> (Record, Built) {
+        if random.once_in(3) {
+            return (Record::whole(self.order, self.words.len()), self);
+        }
+        let (kind, pixels) = (random.pick(&[0, 1, 0, 1, 2, u32::MAX]), random.below(area(self.order) as usize + 1));
+        self.upto(kind, pixels as u32)
     }
 
     /// Fills a block and gives its account, if it has just one. It does not become uniform with the account forbidden.

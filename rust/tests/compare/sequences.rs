@@ -6,7 +6,7 @@ use crate::damage;
 use crate::living::Living;
 use crate::pair::{At, Count};
 use crate::plain::bed::Bed;
-use crate::plain::{area, file, left, Record, Tile};
+use crate::plain::{area, file, left, morton, pixel, Record, Tile};
 use crate::random::{palette, Built, Random};
 
 /// The bed that lives, with its record and slots, and the plain bed once a call was accepted.
@@ -36,6 +36,7 @@ pub fn case(random: &mut Random, count: &mut Count) {
     let begin = random.below(4);
     for step in 0..random.between(5, 40) {
         let call = if step == begin { random.below(2) } else { random.below(22) };
+        let before = state.bed.is_some().then(|| count.unfit());
         match call {
             0 => fresh(random, count, &mut state),
             1 => read(random, count, &mut state),
@@ -43,6 +44,9 @@ pub fn case(random: &mut Random, count: &mut Count) {
             10..=14 => claim(random, count, &mut state),
             15 | 16 => combine(random, count, &mut state),
             _ => ask(random, count, state.living.at()),
+        }
+        if let Some(before) = before {
+            assert_eq!(count.unfit(), before, "a record answered goes with its slots: no call gives 21 or 22");
         }
         compare_left(count, &state);
     }
@@ -103,7 +107,7 @@ fn given(random: &mut Random, slots: &[u32]) -> u8 {
 
 /// A preview and then its claim; the count previewed is that of the plain bed's blocks afterwards.
 fn claim(random: &mut Random, count: &mut Count, state: &mut State) {
-    let (corner, size) = block(random, state.living.record.order);
+    let (corner, size) = block_near(random, state.living.record);
     let account = given(random, &state.living.slots);
     let m = state.living.slots.len();
     let preview = count.preview(state.living.at(), corner, size, account);
@@ -140,8 +144,7 @@ fn combine(random: &mut Random, count: &mut Count, state: &mut State) {
     let m = state.living.slots.len();
     let number = state.living.combine(count, choice, (built.order, built.words.len(), &built.words));
     let Some(bed) = &mut state.bed else { return };
-    let second = Bed { order: built.order, kind: 0, scanned: area(built.order), accounts: built.raster };
-    match bed.combine(m, choice, &second) {
+    match bed.combine(m, choice, &Bed::whole(built.order, built.raster)) {
         Ok(third) => {
             assert_eq!(number, 0, "combine: the plain bed accepts");
             *bed = third;
@@ -167,11 +170,42 @@ pub fn block(random: &mut Random, order: u32) -> (u32, u32) {
     (corner, size)
 }
 
+/// A pixel of the bed: about the place that its scan has come to.
+pub fn front(random: &mut Random, record: Record) -> (u32, u32) {
+    let order = record.order.min(10);
+    let last = area(order) - 1;
+    let place = (u64::from(record.pixels) + random.below(3) as u64).saturating_sub(random.below(6) as u64).min(last);
+    let (column, row) = match record.kind {
+        0 => (place as usize % (1 << order), place as usize / (1 << order)),
+        _ => pixel(place),
+    };
+    (column as u32, row as u32)
+}
+
+/// A pixel anywhere on the bed or just off it, or about the place that its scan has come to.
+fn point(random: &mut Random, record: Record) -> (u32, u32) {
+    if random.once_in(3) {
+        return front(random, record);
+    }
+    let side = 1usize << record.order.min(10);
+    (random.below(side + 1) as u32, random.below(side + 1) as u32)
+}
+
+/// A block anywhere, now and then one that is none, or one with a pixel about the place that the scan has come to.
+pub fn block_near(random: &mut Random, record: Record) -> (u32, u32) {
+    if random.once_in(2) {
+        return block(random, record.order);
+    }
+    let (column, row) = front(random, record);
+    let size = random.below(record.order.min(10) as usize + 1).min(random.below(3)) as u32;
+    let corner = morton(column as usize, row as usize) as u32;
+    (corner - corner % area(size) as u32, size)
+}
+
 /// The calls that change nothing.
 pub fn ask(random: &mut Random, count: &mut Count, at: At) {
-    let (order, slots) = (at.order, at.slots);
-    let side = 1usize << order.min(10);
-    let (column, row) = (random.below(side + 1) as u32, random.below(side + 1) as u32);
+    let (Record { order, .. }, slots) = (at.record, at.slots);
+    let (column, row) = point(random, at.record);
     match random.below(9) {
         0 => {
             count.check(at);
@@ -181,16 +215,16 @@ pub fn ask(random: &mut Random, count: &mut Count, at: At) {
             count.decode(at, &vec![0x5a; length]);
         }
         2 => {
-            let other = (random.below(side + 1) as u32, random.below(side + 1) as u32);
+            let other = point(random, at.record);
             let near = (column ^ random.below(4) as u32, row ^ random.below(4) as u32);
             count.lookups(at, (column, row), if random.once_in(2) { near } else { other });
         }
         3 => {
-            let (corner, size) = block(random, order);
+            let (corner, size) = block_near(random, at.record);
             count.part(at, corner, size);
         }
         4 => {
-            let (corner, size) = block(random, order);
+            let (corner, size) = block_near(random, at.record);
             count.shown(at, corner, size);
         }
         5 => {
@@ -199,7 +233,7 @@ pub fn ask(random: &mut Random, count: &mut Count, at: At) {
         }
         6 => third(random, count, at),
         7 => {
-            let (corner, size) = block(random, order);
+            let (corner, size) = block_near(random, at.record);
             count.preview(at, corner, size, given(random, slots));
         }
         _ => {
@@ -211,7 +245,7 @@ pub fn ask(random: &mut Random, count: &mut Count, at: At) {
 
 /// The map as the first and as the second of two, and as both.
 fn third(random: &mut Random, count: &mut Count, at: At) {
-    let (choice, built) = (random.pick(&CHOICES), beside(random, at.order));
+    let (choice, built) = (random.pick(&CHOICES), beside(random, at.record.order));
     let other = (built.order, built.words.len(), &built.words[..]).into();
     for (first, second) in [(at, other), (other, at), (at, at)] {
         count.combine(choice, first, second, &mut garbage(random, 0, 40));

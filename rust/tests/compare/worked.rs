@@ -1,5 +1,5 @@
-//! The worked lines of the scope paper, those that are proved as well, and those of lookups and previews. The numbers
-//! are the paper's or computed by the checker, not the plain implementation's.
+//! The worked lines of the scope paper, those that are proved as well, and those of lookups, previews and unfinished
+//! scans. The numbers are the paper's or computed by the checker, not the plain implementation's.
 
 use crate::living::Living;
 use crate::pair::Count;
@@ -28,6 +28,8 @@ pub fn lines(count: &mut Count) {
     rights(count);
     places(count);
     zones(count);
+    halfway(count);
+    nobodys(count);
 }
 
 fn bed_m(count: &mut Count) {
@@ -66,7 +68,7 @@ fn bed_m(count: &mut Count) {
 
     let mut slots = M_WORDS.to_vec();
     slots.resize(6, 0);
-    let mut living = Living::of_list(2, 4, &slots);
+    let mut living = Living::of_scan(Record::whole(2, 4), &slots);
     assert_eq!(count.preview(living.at(), 3, 0, 9), (25, 0));
     assert_eq!(count.preview(living.at(), 3, 0, 0), (0, 6));
     assert_eq!((living.claim(count, 3, 0, 0), living.record.tiles), (0, 6));
@@ -93,8 +95,8 @@ fn limits(count: &mut Count) {
     assert_eq!(scanned(count, 0, 2, 16, &[64]).0, 24);
     let mut slots = M_WORDS.to_vec();
     slots.resize(16, 0);
-    assert_eq!(count.claim((2, 4), &mut slots.clone(), 4, 0, 63).0, 0);
-    assert_eq!(count.claim((2, 4), &mut slots, 4, 0, 64).0, 24);
+    assert_eq!(count.claim(Record::whole(2, 4), &mut slots.clone(), 4, 0, 63).0, 0);
+    assert_eq!(count.claim(Record::whole(2, 4), &mut slots, 4, 0, 64).0, 24);
     assert_eq!(count.read(&[], &mut slots).0, 41);
     // A file's tile count that four times over would be small.
     assert_eq!(count.read(&[2, 0x40, 0, 0, 0, 0], &mut slots).0, 25);
@@ -156,4 +158,67 @@ fn zones(count: &mut Count) {
     let quarters = [3, 4, 3, 4].iter().zip(0..).map(|(&account, corner)| word(corner, 0, account)).collect::<Vec<_>>();
     assert_eq!(count.combine(0, bed, (2, 4, &quarters[..]), &mut slots), (0, 1));
     assert_eq!(slots, [word(0, 1, 5), 0, 0]);
+}
+
+/// M's first two rows: what is scanned of it is asked and claimed as ever, the rest is refused; then the scan goes on.
+fn halfway(count: &mut Count) {
+    let record = Record { kind: 0, order: 2, pixels: 8, tiles: 2 };
+    let slots = [&M_WORDS[..2], &[1; 5]].concat();
+    let at = (record, &slots);
+    assert_eq!(count.lookup(at, 0, 1), (0, Tile { corner: 0, size: 1, account: 5 }));
+    assert_eq!(count.lookup(at, 4, 3).0, 31);
+    assert_eq!(count.lookup(at, 0, 2).0, 52);
+    for asking in [9, 0] {
+        assert_eq!(count.rights(at, 0, 2, asking).0, 52);
+    }
+    assert_eq!(count.lookup((Record { pixels: 17, ..record }, &slots), 4, 1).0, 21);
+    assert_eq!(count.lookup((Record { pixels: 7, ..record }, &slots), 4, 1).0, 22);
+    for (corner, size, account, answer) in [
+        (4, 0, 5, (0, 3)),
+        (0, 1, 0, (0, 1)),
+        (8, 1, 0, (52, 0)),
+        (0, 2, 0, (52, 0)),
+        (8, 1, 64, (52, 0)),
+        (5, 1, 64, (32, 0)),
+    ] {
+        assert_eq!(count.preview(at, corner, size, account), answer);
+        assert_eq!(count.claim(record, &mut slots.clone(), corner, size, account), answer);
+    }
+    assert_eq!(count.write((Record { pixels: 15, tiles: 3, ..record }, &M_WORDS), &[]).0, 52);
+    assert_eq!(count.write((Record { kind: 1, pixels: 16, tiles: 4, ..record }, &M_WORDS), &[0; 32]).0, 0);
+
+    let mut living = Living::of_scan(record, &slots);
+    assert_eq!((living.claim(count, 4, 0, 5), living.claim(count, 15, 0, 5)), (0, 52));
+    assert_eq!(living.feed(count, &M[8..]), (0, 8));
+    assert_eq!(living.slots, [69, word(4, 0, 5), 7177, 8201, 12361, 0, 0]);
+}
+
+/// Scans of order 2 and 3 on which nothing is held: a free block is wholly scanned.
+fn nobodys(count: &mut Count) {
+    let none: [u32; 0] = [];
+    let record = |kind, order, pixels| Record { kind, order, pixels, tiles: 0 };
+    for (record, column, row, (corner, size)) in [
+        (record(0, 2, 10), 1, 0, (0, 1)),
+        (record(0, 2, 10), 1, 2, (9, 0)),
+        (record(1, 2, 10), 2, 0, (4, 1)),
+        (record(1, 2, 10), 1, 2, (9, 0)),
+        (record(0, 3, 32), 5, 2, (16, 2)),
+        (record(0, 3, 31), 5, 2, (24, 1)),
+        (record(1, 3, 31), 5, 2, (24, 1)),
+        (record(1, 3, 64), 5, 2, (0, 3)),
+    ] {
+        assert_eq!(count.lookup((record, &none), column, row), (0, Tile { corner, size, account: 0 }));
+    }
+    for (record, column, row) in [(record(0, 2, 10), 2, 2), (record(1, 2, 10), 0, 3), (record(0, 0, 0), 0, 0)] {
+        assert_eq!(count.lookup((record, &none), column, row), (52, Tile { corner: 0, size: 0, account: 0 }));
+        assert_eq!(count.write((record, &none), &[0; 6]).0, 52);
+    }
+    for (record, corner, size, number) in [
+        (record(0, 2, 6), 0, 1, 0),
+        (record(0, 2, 5), 0, 1, 52),
+        (record(1, 2, 6), 4, 0, 0),
+        (record(1, 2, 6), 4, 1, 52),
+    ] {
+        assert_eq!(count.claim(record, &mut vec![0; 6], corner, size, 5).0, number);
+    }
 }

@@ -1,4 +1,5 @@
-//! The plain bed: order, kind, pixels scanned, and an account for each pixel. It is never handed a record or slots.
+//! The plain bed: order, kind, pixels scanned, and for each pixel an account and whether it is scanned. It is never
+//! handed a record or slots.
 
 use super::tally::Tally;
 use super::{area, file, pixel, Tile};
@@ -7,9 +8,11 @@ use super::{area, file, pixel, Tile};
 pub struct Bed {
     pub order: u32,
     pub kind: u32,
+    /// The places that the scan has been at.
     pub scanned: u64,
-    /// Row after row.
+    /// Row after row, and so is `seen`: whether the scan has been at the pixel.
     pub accounts: Vec<u8>,
+    pub seen: Vec<bool>,
 }
 
 impl Bed {
@@ -18,7 +21,37 @@ impl Bed {
         if order > 10 {
             return Err(1);
         }
-        Ok(Bed { order, kind, scanned: 0, accounts: vec![0; area(order) as usize] })
+        Ok(Bed::upto(kind, order, 0, vec![0; area(order) as usize]))
+    }
+
+    /// A bed with its accounts, whose scan has been at so many places: it walks from the first of them on. Where it has
+    /// been at all of them, every pixel is seen.
+    pub fn upto(kind: u32, order: u32, scanned: u64, accounts: Vec<u8>) -> Bed {
+        if scanned == area(order) {
+            return Bed { order, kind, scanned, seen: vec![true; accounts.len()], accounts };
+        }
+        let seen = vec![false; accounts.len()];
+        let mut bed = Bed { order, kind, scanned: 0, accounts, seen };
+        (0..scanned).for_each(|_| bed.step());
+        bed
+    }
+
+    /// A bed with its accounts, by rows and wholly scanned.
+    pub fn whole(order: u32, accounts: Vec<u8>) -> Bed {
+        Bed::upto(0, order, area(order), accounts)
+    }
+
+    /// The scan is at its next place.
+    fn step(&mut self) {
+        let at = self.index_of_place(self.scanned);
+        self.seen[at] = true;
+        self.scanned += 1;
+    }
+
+    /// Whether a pixel that is not scanned has an account.
+    pub fn held_unseen(&self) -> bool {
+        let mut pixels = self.accounts.iter().zip(&self.seen);
+        self.scanned < area(self.order) && pixels.any(|(&account, &seen)| account != 0 && !seen)
     }
 
     pub fn side(&self) -> usize {
@@ -36,6 +69,12 @@ impl Bed {
     pub fn index_of_morton(&self, morton: u64) -> usize {
         let (column, row) = pixel(morton);
         row * self.side() + column
+    }
+
+    /// Where the pixels of a block lie.
+    fn pixels_in(&self, corner: u64, size: u32) -> impl Iterator<Item = usize> {
+        let (start, side, wide) = (self.index_of_morton(corner), self.side(), 2usize.pow(size));
+        (0..wide).flat_map(move |row| (0..wide).map(move |column| start + row * side + column))
     }
 
     /// The largest uniform blocks of non-zero accounts, by rising corner.
@@ -77,10 +116,7 @@ impl Bed {
 
     /// Feeds accounts with m slots: the number that stopped it and the count taken.
     pub fn feed(&mut self, m: usize, accounts: &[u8]) -> (u32, usize) {
-        let unscanned = self.scanned..area(self.order);
-        if unscanned.into_iter().any(|place| self.accounts[self.index_of_place(place)] != 0) {
-            return (22, 0);
-        }
+        assert!(!self.held_unseen(), "no call gives a pixel away that is not scanned");
         // No bed has more blocks than pixels. The others are counted anew at each pixel; on large beds the count is
         // kept instead.
         let roomy = m as u64 >= area(self.order);
@@ -103,7 +139,7 @@ impl Bed {
                 self.accounts[at] = before;
                 return (25, taken);
             }
-            self.scanned += 1;
+            self.step();
         }
         (0, accounts.len())
     }
@@ -113,12 +149,14 @@ impl Bed {
         if !block_in(self.order, corner, size) {
             return 32;
         }
+        if !self.pixels_in(corner.into(), size).all(|at| self.seen[at]) {
+            return 52;
+        }
         if account > 63 {
             return 24;
         }
         let mut after = self.clone();
-        for morton in u64::from(corner)..u64::from(corner) + area(size) {
-            let at = after.index_of_morton(morton);
+        for at in self.pixels_in(corner.into(), size) {
             after.accounts[at] = account;
         }
         if after.blocks().len() > m {
@@ -128,13 +166,13 @@ impl Bed {
         0
     }
 
-    /// The third bed of this one and a second with m slots, by rows and wholly scanned. Choice 0 keeps this one's
-    /// pixels where the second is somebody's, any other those where it is nobody's.
+    /// The third bed of this one and a second with m slots, scanned as this one is. Choice 0 keeps this one's pixels
+    /// where the second is somebody's, any other those where it is nobody's.
     pub fn combine(&self, m: usize, choice: u32, second: &Bed) -> Result<Bed, u32> {
         if self.order != second.order {
             return Err(51);
         }
-        let mut third = Bed { kind: 0, scanned: area(self.order), ..self.clone() };
+        let mut third = self.clone();
         for (at, account) in third.accounts.iter_mut().enumerate() {
             let somebodys = second.accounts[at] != 0;
             let kept = if choice == 0 { somebodys } else { !somebodys };
@@ -151,7 +189,7 @@ impl Bed {
     /// Reads a file with m slots: the bed that it shows, by rows and wholly scanned.
     pub fn read(m: usize, bytes: &[u8]) -> Result<Bed, u32> {
         let (order, tiles) = file::read(bytes, m)?;
-        Ok(Bed { order, kind: 0, scanned: area(order), accounts: painted(order, &tiles) })
+        Ok(Bed::whole(order, painted(order, &tiles)))
     }
 }
 

@@ -2,7 +2,7 @@
 //! storage too.
 
 use super::bed::{block_in, painted, Bed};
-use super::{area, file, left, morton, pixel, Record, Tile};
+use super::{area, file, left, morton, Record, Tile};
 
 /// The tiles of a list whose words have passed their checks; their corners rise.
 #[derive(Default)]
@@ -83,28 +83,22 @@ pub fn feed(record: Record, slots: &[u32], accounts: &[u8]) -> (u32, usize, Reco
     (number, taken, after, left(slots.len(), &blocks))
 }
 
-/// The bed of a record and its list, or the opening check of a feed that refuses it.
+/// The bed of a record and its list, or the first of the checks that opens a feed and every call on a record.
 fn opened(record: Record, slots: &[u32]) -> Result<Bed, u32> {
     let tiles = checked(record.order, record.tiles, slots)?;
     if u64::from(record.pixels) > area(record.order) {
         return Err(21);
     }
-    let side = 2u64.pow(record.order);
-    for tile in &tiles {
-        for morton in tile.corner..tile.end() {
-            let (column, row) = pixel(morton);
-            let place = if record.kind == 0 { row as u64 * side + column as u64 } else { morton };
-            if place >= u64::from(record.pixels) {
-                return Err(22);
-            }
-        }
+    let bed = Bed::upto(record.kind, record.order, record.pixels.into(), painted(record.order, &tiles));
+    if bed.held_unseen() {
+        return Err(22);
     }
-    Ok(Bed {
-        order: record.order,
-        kind: record.kind,
-        scanned: u64::from(record.pixels),
-        accounts: painted(record.order, &tiles),
-    })
+    Ok(bed)
+}
+
+/// The opening checks alone.
+pub fn open(record: Record, slots: &[u32]) -> u32 {
+    opened(record, slots).err().unwrap_or(0)
 }
 
 pub fn decode(order: u32, tiles: usize, slots: &[u32], raster: &[u8]) -> (u32, Vec<u8>) {
@@ -115,29 +109,34 @@ pub fn decode(order: u32, tiles: usize, slots: &[u32], raster: &[u8]) -> (u32, V
     }
 }
 
-/// The number and the block named, with its account: of the quadrant blocks that have the pixel the largest one of its
-/// account alone.
-pub fn lookup(order: u32, tiles: usize, slots: &[u32], column: u32, row: u32) -> (u32, Tile) {
+/// The number and the block named, with its account: of the quadrant blocks that have the pixel the largest one whose
+/// pixels all have its account and are all scanned.
+pub fn lookup(record: Record, slots: &[u32], column: u32, row: u32) -> (u32, Tile) {
     let nothing = Tile { corner: 0, size: 0, account: 0 };
-    let tiles = match checked(order, tiles, slots) {
+    let bed = match opened(record, slots) {
         Err(number) => return (number, nothing),
-        Ok(tiles) => tiles,
+        Ok(bed) => bed,
     };
-    let (side, column, row) = (2usize.pow(order), column as usize, row as usize);
+    let (side, column, row) = (bed.side(), column as usize, row as usize);
     if column >= side || row >= side {
         return (31, nothing);
     }
-    let accounts = painted(order, &tiles);
-    let account = accounts[row * side + column];
-    for size in (0..=order).rev() {
+    if !bed.seen[row * side + column] {
+        return (52, nothing);
+    }
+    let account = bed.accounts[row * side + column];
+    for size in (0..=record.order).rev() {
         let wide = 2usize.pow(size);
         let (west, north) = (column - column % wide, row - row % wide);
-        let mut rows = (north..north + wide).map(|row| &accounts[row * side + west..][..wide]);
-        if rows.all(|row| row.iter().all(|&other| other == account)) {
+        let alike = |from: usize| {
+            bed.accounts[from..from + wide].iter().all(|&other| other == account)
+                && bed.seen[from..from + wide].iter().all(|&seen| seen)
+        };
+        if (north..north + wide).all(|row| alike(row * side + west)) {
             return (0, Tile { corner: morton(west, north), size, account });
         }
     }
-    panic!("the pixel itself is of one account");
+    panic!("the pixel itself is scanned and of one account");
 }
 
 /// The number, the position and the length.
@@ -157,18 +156,29 @@ pub fn part(order: u32, tiles: usize, slots: &[u32], corner: u32, size: u32) -> 
     (0, position, length)
 }
 
-/// The number, the tiles that a bed of the block alone would have, and the accounts of the block by rising Morton
-/// number.
-pub fn shown(order: u32, tiles: usize, slots: &[u32], corner: u32, size: u32) -> (u32, Vec<Tile>, Vec<u8>) {
-    let (number, ..) = part(order, tiles, slots, corner, size);
-    if number != 0 {
-        return (number, Vec::new(), Vec::new());
+/// What a block shows: the tiles that a bed of the block alone would have, and by rising Morton number the accounts of
+/// its pixels and whether they are scanned.
+#[derive(Default)]
+pub struct Shown {
+    pub tiles: Vec<Tile>,
+    pub accounts: Vec<u8>,
+    pub seen: Vec<bool>,
+}
+
+/// The number and what the block shows.
+pub fn shown(record: Record, slots: &[u32], corner: u32, size: u32) -> (u32, Shown) {
+    let bed = match opened(record, slots) {
+        Err(number) => return (number, Shown::default()),
+        Ok(bed) => bed,
+    };
+    if !block_in(record.order, corner, size) {
+        return (32, Shown::default());
     }
-    let tiles: Vec<Tile> = slots[..tiles].iter().map(|&word| Tile::of_word(word)).collect();
-    let bed = Bed { order, kind: 0, scanned: area(order), accounts: painted(order, &tiles) };
     let corner = u64::from(corner);
-    let accounts = (corner..corner + area(size)).map(|morton| bed.accounts[bed.index_of_morton(morton)]).collect();
-    (0, bed.blocks_of(corner, size), accounts)
+    let pixels: Vec<usize> = (corner..corner + area(size)).map(|morton| bed.index_of_morton(morton)).collect();
+    let accounts = pixels.iter().map(|&at| bed.accounts[at]).collect();
+    let seen = pixels.iter().map(|&at| bed.seen[at]).collect();
+    (0, Shown { tiles: bed.blocks_of(corner, size), accounts, seen })
 }
 
 /// Who a pixel or an asker is.
@@ -188,8 +198,8 @@ fn class(account: u8) -> Class {
     }
 }
 
-pub fn rights(order: u32, tiles: usize, slots: &[u32], column: u32, row: u32, asking: u8) -> (u32, bool) {
-    let (number, Tile { account: holder, .. }) = lookup(order, tiles, slots, column, row);
+pub fn rights(record: Record, slots: &[u32], column: u32, row: u32, asking: u8) -> (u32, bool) {
+    let (number, Tile { account: holder, .. }) = lookup(record, slots, column, row);
     if number != 0 {
         return (number, false);
     }
@@ -209,12 +219,11 @@ pub fn rights(order: u32, tiles: usize, slots: &[u32], column: u32, row: u32, as
 }
 
 /// The number, the tile count and the slots.
-pub fn claim(order: u32, tiles: usize, slots: &[u32], corner: u32, size: u32, account: u8) -> (u32, usize, Vec<u32>) {
-    let tiles = match checked(order, tiles, slots) {
+pub fn claim(record: Record, slots: &[u32], corner: u32, size: u32, account: u8) -> (u32, usize, Vec<u32>) {
+    let mut bed = match opened(record, slots) {
         Err(number) => return (number, 0, slots.to_vec()),
-        Ok(tiles) => tiles,
+        Ok(bed) => bed,
     };
-    let mut bed = Bed { order, kind: 0, scanned: area(order), accounts: painted(order, &tiles) };
     match bed.claim(slots.len(), corner, size, account) {
         0 => {
             let blocks = bed.blocks();
@@ -225,20 +234,17 @@ pub fn claim(order: u32, tiles: usize, slots: &[u32], corner: u32, size: u32, ac
 }
 
 /// The number and the tile count: those of the claim on a copy.
-pub fn preview(order: u32, tiles: usize, slots: &[u32], corner: u32, size: u32, account: u8) -> (u32, usize) {
-    let (number, count, _) = claim(order, tiles, slots, corner, size, account);
+pub fn preview(record: Record, slots: &[u32], corner: u32, size: u32, account: u8) -> (u32, usize) {
+    let (number, count, _) = claim(record, slots, corner, size, account);
     (number, count)
 }
 
 /// An order, a tile count and slots.
 pub type Map<'a> = (u32, usize, &'a [u32]);
 
-/// The number, the third map's tile count and its slots.
+/// The number, the third map's tile count and its slots. What is not scanned is nobody's on both maps.
 pub fn combine(choice: u32, first: Map, second: Map, out: &[u32]) -> (u32, usize, Vec<u32>) {
-    let bed = |(order, tiles, slots): Map| {
-        let tiles = checked(order, tiles, slots)?;
-        Ok(Bed { order, kind: 0, scanned: area(order), accounts: painted(order, &tiles) })
-    };
+    let bed = |(order, tiles, slots): Map| Ok(Bed::whole(order, painted(order, &checked(order, tiles, slots)?)));
     let third = bed(first).and_then(|first| first.combine(out.len(), choice, &bed(second)?));
     match third {
         Err(number) => (number, 0, out.to_vec()),
@@ -250,12 +256,15 @@ pub fn combine(choice: u32, first: Map, second: Map, out: &[u32]) -> (u32, usize
 }
 
 /// The number, the length and the bytes.
-pub fn write(order: u32, tiles: usize, slots: &[u32], bytes: &[u8]) -> (u32, usize, Vec<u8>) {
-    let tiles = match checked(order, tiles, slots) {
+pub fn write(record: Record, slots: &[u32], bytes: &[u8]) -> (u32, usize, Vec<u8>) {
+    let bed = match opened(record, slots) {
         Err(number) => return (number, 0, bytes.to_vec()),
-        Ok(tiles) => tiles,
+        Ok(bed) => bed,
     };
-    let file = file::write(order, &tiles);
+    if !bed.seen.iter().all(|&seen| seen) {
+        return (52, 0, bytes.to_vec());
+    }
+    let file = file::write(record.order, &bed.blocks());
     if bytes.len() < file.len() {
         return (26, 0, bytes.to_vec());
     }

@@ -1,5 +1,5 @@
-//! Another implementation of every call, from the scope paper's plain bed: an account for each pixel, and lists made
-//! from it anew. No cleverness, and nothing shared with the library or its wrapper.
+//! Another implementation of every call, from the scope paper's plain bed: for each pixel an account and whether it is
+//! scanned, and lists made from it anew. No cleverness, and nothing shared with the library or its wrapper.
 
 pub mod bed;
 pub mod file;
@@ -66,6 +66,13 @@ pub struct Record {
     pub order: u32,
     pub pixels: u32,
     pub tiles: usize,
+}
+
+impl Record {
+    /// The record of a map that was read: by rows, with every pixel scanned.
+    pub fn whole(order: u32, tiles: usize) -> Record {
+        Record { kind: 0, order, pixels: area(order.min(10)) as u32, tiles }
+    }
 }
 
 /// The words of a list, then 0 up to m slots.

@@ -13,17 +13,17 @@ use Rattle.claim.proofs.claim.Tie as tie
 fits : (c : tie.After-planned) →
     let a = c .before .before .before .before .before .args in
     let p = c .planned .given .0 .0 in
-    Known (a .order) (a .tiles) (a .slots .now) (a .corner) (a .size) (a .account) p × (p .tiles ≤ length (a .slots .now))
+    Known (a .scan) (a .slots .now) (a .corner) (a .size) (a .account) p × (p .tiles ≤ length (a .slots .now))
 fits c =
     let a = c .before .before .before .before .before .args in
-    ends-fits (a .order) (a .tiles) (a .slots .now) (a .corner) (a .size) (a .account) (c .planned .given .1) (c .before .before .foresee .ensures)
+    ends-fits (a .scan) (a .slots .now) (a .corner) (a .size) (a .account) (c .planned .given .1) (c .before .before .foresee .ensures)
 
 returns : tie.Need-returns
 returns c =
     let a = c .before .before .before .before .before .before .before .args in
     let foresee = c .before .before .before .before .foresee in
-    let ends = ends-refused (a .order) (a .tiles) (a .slots .now) (a .corner) (a .size) (a .account) (c .before .before .number .given .1) (foresee .ensures) in
-    rw (c .refused .ensures) (claimOf-refused (a .order) (a .tiles) (a .slots .now) (a .corner) (a .size) (a .account) _ (ends .0) (ends .1))
+    let ends = ends-refused (a .scan) (a .slots .now) (a .corner) (a .size) (a .account) (c .before .before .number .given .1) (foresee .ensures) in
+    rw (c .refused .ensures) (claimOf-refused (a .scan) (a .slots .now) (a .corner) (a .size) (a .account) _ (ends .0) (ends .1))
 
 returns-2 : tie.Need-returns-2
 returns-2 c =

@@ -1,78 +1,77 @@
--- A refusal leaves before any store; what list checking accepts is valid, so that its length fits and its file is the definition's.
+-- A refusal leaves before any store; the list of an opened scan is valid, so that its length fits and its file is the definition's.
 use mathlib.Core.Path.{sym, _∙_}
 use Rattle.tile.specs.Slots.{tilesIn}
-use Rattle.list_check.proofs.Accepts.{listCheck-valid}
 use Rattle.mapfile_roster.proofs.RosterLaws.{rosterOf-few}
-use Rattle.mapfile_write.proofs.WriterLaws.{few-tiles, fileOf-size, writeOf-refused, writeOf-short, writeOf-put}
+use Rattle.mapfile_write.proofs.WriterLaws.{few-tiles, fileOf-size, writeOf-refused, writeOf-short, writeOf-put, ready-opened}
 use native.Mathlib.Omega.{arith}
 use borrow.Author.Needs.{needs}
 use Rattle.mapfile_write.proofs.write.Statement.{statement}
 use Rattle.mapfile_write.proofs.write.Tie as tie
 
 returns : tie.Need-returns
-returns c = writeOf-refused _ _ _ _ _ (c .before .check .ensures) (c .if1 .taken)
+returns c = writeOf-refused _ _ _ _ (c .before .ready .ensures) (c .if1 .taken)
 
 accounts-requires : tie.Need-accounts-requires
-accounts-requires c κs = listCheck-valid _ _ _ .0 (sym (c .before .check .ensures) ∙ c .if1 .left) .1
+accounts-requires c κs = ready-opened _ _ (sym (c .before .ready .ensures) ∙ c .if1 .left) .count
 
 mul-length : tie.Need-mul-length
 mul-length c =
     let a = c .before .before .before .before .before .args in
-    let v = listCheck-valid (a .order) (a .tiles) (a .slots .now) .0 (sym (c .before .before .check .ensures) ∙ c .before .if1 .left) in
-    omega (arith, few-tiles (a .order) (a .tiles) (a .slots .now) (v .0) (v .1) (v .2))
+    let v = ready-opened (a .scan) (a .slots .now) (sym (c .before .before .ready .ensures) ∙ c .before .if1 .left) in
+    omega (arith, few-tiles (a .scan .order) (a .scan .tiles) (a .slots .now) (v .order) (v .count) (v .valid))
 
 add-length : tie.Need-add-length
 add-length c =
     let a = c .before .before .before .before .before .args in
-    let v = listCheck-valid (a .order) (a .tiles) (a .slots .now) .0 (sym (c .before .before .check .ensures) ∙ c .before .if1 .left) in
-    omega (arith, few-tiles (a .order) (a .tiles) (a .slots .now) (v .0) (v .1) (v .2))
+    let v = ready-opened (a .scan) (a .slots .now) (sym (c .before .before .ready .ensures) ∙ c .before .if1 .left) in
+    omega (arith, few-tiles (a .scan .order) (a .scan .tiles) (a .slots .now) (v .order) (v .count) (v .valid))
 
 mul-length-2 : tie.Need-mul-length-2
 mul-length-2 c =
     let a = c .before .before .before .before .before .args in
-    omega (arith, c .accounts .ensures, rosterOf-few (tilesIn (a .tiles) (a .slots .now)))
+    omega (arith, c .accounts .ensures, rosterOf-few (tilesIn (a .scan .tiles) (a .slots .now)))
 
 add-length-2 : tie.Need-add-length-2
 add-length-2 c =
     let a = c .before .before .before .before .before .args in
-    let v = listCheck-valid (a .order) (a .tiles) (a .slots .now) .0 (sym (c .before .before .check .ensures) ∙ c .before .if1 .left) in
+    let v = ready-opened (a .scan) (a .slots .now) (sym (c .before .before .ready .ensures) ∙ c .before .if1 .left) in
     omega (
       arith,
       c .accounts .ensures,
-      rosterOf-few (tilesIn (a .tiles) (a .slots .now)),
-      few-tiles (a .order) (a .tiles) (a .slots .now) (v .0)
-          (v .1) (v .2),
+      rosterOf-few (tilesIn (a .scan .tiles) (a .slots .now)),
+      few-tiles (a .scan .order) (a .scan .tiles) (a .slots .now) (v .order)
+          (v .count) (v .valid),
     )
 
 returns-2 : tie.Need-returns-2
 returns-2 c =
     let a = c .before .before .before .before .before .before .args in
-    let check = c .before .before .before .check in
-    let e = sym (check .ensures) ∙ c .before .before .if1 .left in
-    let v = listCheck-valid (a .order) (a .tiles) (a .slots .now) .0 e in
-    writeOf-short _ _ _ _ e (omega (
+    let ready = c .before .before .before .ready in
+    let e = sym (ready .ensures) ∙ c .before .before .if1 .left in
+    let v = ready-opened (a .scan) (a .slots .now) e in
+    writeOf-short _ _ _ e (omega (
       arith,
-      fileOf-size (a .order) (a .tiles) (c .before .accounts .result) (a .slots .now) (v .1)
+      fileOf-size (a .scan .order) (a .scan .tiles) (c .before .accounts .result) (a .slots .now) (v .count)
           (c .before .accounts .ensures),
     ))
 
 put-file-requires : tie.Need-put-file-requires
 put-file-requires c κs =
     let a = c .before .before .before .before .before .before .before .args in
-    let check = c .before .before .before .before .check in
+    let ready = c .before .before .before .before .ready in
     let if1 = c .before .before .before .if1 in
-    let v = listCheck-valid (a .order) (a .tiles) (a .slots .now) .0 (sym (check .ensures) ∙ if1 .left) in
-    (v .0, v .1, v .2, c .before .before .accounts .ensures, omega arith)
+    let v = ready-opened (a .scan) (a .slots .now) (sym (ready .ensures) ∙ if1 .left) in
+    (v .order, v .count, v .valid, c .before .before .accounts .ensures, omega arith)
 
 returns-3 : tie.Need-returns-3
 returns-3 c =
     let a = c .before .before .before .before .before .before .before .before .before .before .args in
     let accounts = c .before .before .before .before .before .accounts in
-    let check = c .before .before .before .before .before .before .before .check in
+    let ready = c .before .before .before .before .before .before .before .ready in
     let if1 = c .before .before .before .before .before .before .if1 in
-    let e = sym (check .ensures) ∙ if1 .left in
-    let v = listCheck-valid (a .order) (a .tiles) (a .slots .now) .0 e in
-    writeOf-put _ _ _ _ e _ (fileOf-size (a .order) (a .tiles) (accounts .result) (a .slots .now) (v .1) (accounts .ensures)) (omega arith)
+    let e = sym (ready .ensures) ∙ if1 .left in
+    let v = ready-opened (a .scan) (a .slots .now) e in
+    writeOf-put _ _ _ e _ (fileOf-size (a .scan .order) (a .scan .tiles) (accounts .result) (a .slots .now) (v .count) (accounts .ensures)) (omega arith)
     (c .before .before .put-file .ensures)
 
 pub write-spec : {M : Type 1} → statement M

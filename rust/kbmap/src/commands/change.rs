@@ -102,7 +102,8 @@ fn change(map: &mut Map, claim: &Claim) -> Result<(Block, Account, String), Refu
     Ok((block, account, held?))
 }
 
-/// "account 5 (4 pixels), nobody's (12 pixels)", by rising accounts.
+/// "account 5 (4 pixels), nobody's (12 pixels)", by rising accounts. A map that was read is wholly scanned: what no
+/// account has is nobody's.
 fn held(map: &Map, block: Block) -> Result<String, Refusal> {
     let pixels = |size| raw::extent(size).pixels;
     let mut accounts = BTreeMap::new();

@@ -1,0 +1,108 @@
+-- The checks that what is asked is scanned, by how they end.
+--     pixel-unscanned, -scanned     52 of a pixel by its place; pixel-passed, what passes
+--     block-unscanned, -scanned     52 of a block by the test; block-passed, what passes, and block-all, that it does
+--     finished-short, -whole        52 of a scan to be written; finished-passed, what passes; finished-all, that each pixel is scanned
+--     whole-clear, blank-clear      no tile of a valid list covers an unscanned pixel, once all are scanned, or where the unscanned ones are nobody's
+use mathlib.Core.Path.{_≡_, refl, sym}
+use mathlib.Core.Bool.{Bool, true, false, not}
+use mathlib.Core.List.{List, [], _∷_, List·Memᴰ·head, List·Memᴰ·tail}
+use mathlib.Core.Logic.{_↔_}
+use Prim.Native.Nat.{ℕ, suc, _+_, _-_, _^_, _≤_, _<_}
+use native.Mathlib.Decide.{decLt}
+use native.Mathlib.Omega.{arith}
+use Rattle.basics.proofs.Tests.{Test, holds, fails, test-leb, test-eqb}
+use Rattle.refusal.specs.Refusal.{accepted, unscanned}
+use Rattle.refusal.specs.Checks.{must}
+use Rattle.refusal.proofs.CheckLaws.{must-on, must-off, must-inv}
+use Rattle.tile.specs.Tile.{Tile}
+use Rattle.quadtree.specs.Raster.{accountAt, _∈_}
+use Rattle.quadtree.specs.Valid.{Valid}
+use Rattle.quadtree.proofs.Alignment.{area-pos}
+use Rattle.quadtree.proofs.Chains.{quadrant-stop}
+use Rattle.quadtree.proofs.ValidLaws.{valid-quadrant}
+use Rattle.quadtree.proofs.Linear.{valid-linear}
+use Rattle.bed.specs.declared.Scan.{Scan}
+use Rattle.bed.specs.Places.{placeOf, pixelAt, scanned, unscannedIn}
+use Rattle.bed.proofs.PlaceLaws.{pixelAt-lt, placeOf-lt, placeOf-pixelAt}
+use Rattle.bed.proofs.ScannedBlocks.{AllScanned, test-unscanned, test-scanned}
+use Rattle.scan_check.specs.Opening.{coversUnscanned}
+use Rattle.scan_check.specs.Scanned.{scannedCheck, blockScannedCheck, finishedCheck}
+
+module _ (c : Scan) (z : ℕ) where
+  abbrev place : ℕ
+  place = placeOf (c .kind) (c .order) z
+
+  pub pixel-unscanned : c .pixels ≤ place → unscanned ≡ scannedCheck c z
+  unfolding scannedCheck scanned
+  pixel-unscanned h = sym (must-off unscanned accepted (test-leb (suc place) (c .pixels)) (λ l. omega arith))
+
+  pub pixel-scanned : place < c .pixels → accepted ≡ scannedCheck c z
+  unfolding scannedCheck scanned
+  pixel-scanned h = sym (must-on unscanned accepted (test-leb (suc place) (c .pixels)) h)
+
+  pub pixel-passed : scannedCheck c z ≡ accepted → place < c .pixels
+  unfolding scannedCheck scanned
+  pixel-passed e = must-inv (test-leb (suc place) (c .pixels)) (omega arith) e .0
+
+module _ (c : Scan) (x k : ℕ) where
+  abbrev all : Type 0
+  all = AllScanned (c .kind) (c .order) (c .pixels) x k
+
+  pub block-unscanned : true ≡ unscannedIn (c .kind) (c .order) (c .pixels) x k → unscanned ≡ blockScannedCheck c x k
+  unfolding blockScannedCheck must
+  block-unscanned e = rw (← e)
+
+  pub block-scanned : false ≡ unscannedIn (c .kind) (c .order) (c .pixels) x k → accepted ≡ blockScannedCheck c x k
+  unfolding blockScannedCheck must
+  block-scanned e = rw (← e)
+
+  pub block-passed : blockScannedCheck c x k ≡ accepted → all
+  unfolding blockScannedCheck
+  block-passed e = must-inv (test-scanned (c .kind) (c .order) (c .pixels) x k) (omega arith) e .0
+
+  pub block-all : all → blockScannedCheck c x k ≡ accepted
+  unfolding blockScannedCheck
+  block-all a = must-on unscanned accepted (test-scanned (c .kind) (c .order) (c .pixels) x k) a
+
+module _ (c : Scan) where
+  pub finished-short : (c .pixels ≡ 4 ^ c .order → ⊥) → unscanned ≡ finishedCheck c
+  unfolding finishedCheck
+  finished-short h = sym (must-off unscanned accepted (test-eqb (c .pixels) (4 ^ c .order)) h)
+
+  pub finished-whole : c .pixels ≡ 4 ^ c .order → accepted ≡ finishedCheck c
+  unfolding finishedCheck
+  finished-whole h = sym (must-on unscanned accepted (test-eqb (c .pixels) (4 ^ c .order)) h)
+
+  pub finished-passed : finishedCheck c ≡ accepted → c .pixels ≡ 4 ^ c .order
+  unfolding finishedCheck
+  finished-passed e = must-inv (test-eqb (c .pixels) (4 ^ c .order)) (omega arith) e .0
+
+  -- the last place of the scan is that of a pixel
+  pub finished-all : c .pixels ≤ 4 ^ c .order → (finishedCheck c ≡ accepted) ↔ AllScanned (c .kind) (c .order) (c .pixels) 0 (c .order)
+  finished-all few = (λ e z l h. omega (arith, finished-passed e, placeOf-lt (c .kind) (c .order) z (omega arith)), λ a.
+      let pos = area-pos (c .order) in
+      let last = pixelAt (c .kind) (c .order) (4 ^ c .order - 1) in
+      let in-bed = pixelAt-lt (c .kind) (c .order) (4 ^ c .order - 1) (omega arith) in
+      sym (finished-whole (omega (arith, a last (omega arith) (omega (arith, in-bed)), placeOf-pixelAt (c .kind) (c .order) (4 ^ c .order - 1) (omega arith)))))
+
+  -- no tile covers an unscanned pixel, where each is wholly scanned
+  tiles-clear : (ts : List Tile) → ((t : Tile) → t ∈ ts → AllScanned (c .kind) (c .order) (c .pixels) (t .corner) (t .size)) → coversUnscanned c ts ≡ false
+  unfolding coversUnscanned
+  tiles-clear [] q = refl
+  tiles-clear (t ∷ ts) q = rw (passed (test-unscanned (c .kind) (c .order) (c .pixels) (t .corner) (t .size)) (λ w. w .3 (q t (List·Memᴰ·head refl) (w .0) (w .1) (w .2)))) (tiles-clear ts (λ u i. q u (List·Memᴰ·tail i)))
+    where
+      passed : {P : Type 0} {b : Bool} → Test P b → (P → ⊥) → b ≡ false
+      passed (holds p) h = absurd (h p)
+      passed (fails p) h = refl
+
+  module _ (ts : List Tile) (v : Valid (c .order) ts) where
+    pub whole-clear : c .pixels ≡ 4 ^ c .order → coversUnscanned c ts ≡ false
+    whole-clear e = tiles-clear ts (λ t i z l h. omega (arith, placeOf-lt (c .kind) (c .order) z (omega (arith, quadrant-stop (valid-quadrant v i)))))
+
+    pub blank-clear : ((z : ℕ) → z < 4 ^ c .order → c .pixels ≤ placeOf (c .kind) (c .order) z → accountAt ts z ≡ 0) → coversUnscanned c ts ≡ false
+    blank-clear blank = tiles-clear ts (λ t i z l h.
+        let p = valid-linear v .members t .0 i in
+        elim (decLt (placeOf (c .kind) (c .order) z) (c .pixels)) [
+          | yes g ↦ g
+          | no g ↦ absurd (omega (arith, p .uniform z l h, p .quadrant .owned, blank z (omega (arith, quadrant-stop (p .quadrant))) (omega arith)))
+        ])
