@@ -31,7 +31,7 @@ kb_combine_answer straight_combine(uint32_t choice,
                                    uint32_t *out, size_t out_length);
 
 /* Used by more than one of the files here. straight_place is how many places come before a pixel's own in a scan;
-   straight_opening has the scan checks. */
+   straight_opening has the opening checks. */
 uint32_t straight_morton(uint32_t column, uint32_t row);
 uint32_t straight_side(uint32_t morton);
 uint32_t straight_place(uint32_t kind, uint32_t order, uint32_t morton);

@@ -46,7 +46,7 @@
        KB_ORDER_TOO_LARGE, KB_COUNT_ABOVE_SLOTS, then for each word from the first on KB_HIGH_BITS_SET,
        KB_SIZE_ABOVE_ORDER, KB_CORNER_INVALID, KB_ACCOUNT_ZERO, KB_TILES_OVERLAP, KB_SIBLINGS_UNMERGED. The first bad
        word decides.
-     "The scan checks" are the list checks, then KB_SCANNED_TOO_LARGE, KB_TILE_UNSCANNED. Every call that is handed a
+     "The opening checks" are the list checks, then KB_SCANNED_TOO_LARGE, KB_TILE_UNSCANNED. Every call that is handed a
        record begins with them. From kb_fresh or kb_read on, records and slots that go on as each call leaves them break
        none of these. */
 
@@ -197,12 +197,12 @@ KB_MUST_USE kb_fresh_answer kb_fresh(uint32_t kind, uint32_t order, uint32_t *sl
 /* Goes on with a scan: each account is that of the next pixel, row after row (KB_ROWS) or by rising Morton number
    (KB_MORTON). After each pixel the list is the list of the bed with that pixel in its place, and with no tile on the
    pixels that are not scanned yet. Hand over as many accounts at once as you have, or none.
-     refuses   the scan checks, which open the feed; then at each pixel KB_SCAN_FULL, KB_ACCOUNT_TOO_LARGE,
-               KB_SLOTS_EXCEEDED. A list that the pixel's merge shortens enough is not refused.
-     answers   how many accounts were taken, and the record to go on with. A scan check gives back the record handed in,
-               with 0 taken. A feed stopped at a pixel keeps the pixels before it and has their count and record.
-     storage   past the scan checks the slots hold the list of the pixels taken, and 0 from its end on, also when the
-               feed was stopped at its first pixel or had none; refused by a scan check, they are as they were */
+     refuses   the opening checks; then at each pixel KB_SCAN_FULL, KB_ACCOUNT_TOO_LARGE, KB_SLOTS_EXCEEDED. A list that
+               the pixel's merge shortens enough is not refused.
+     answers   how many accounts were taken, and the record to go on with. An opening check gives back the record handed
+               in, with 0 taken. A feed stopped at a pixel keeps the pixels before it and has their count and record.
+     storage   past the opening checks the slots hold the list of the pixels taken, and 0 from its end on, also when the
+               feed was stopped at its first pixel or had none; refused by an opening check, they are as they were */
 KB_MUST_USE kb_feed_answer kb_feed(uint32_t kind, uint32_t order, uint32_t pixels, size_t tiles,
                                    uint32_t *slots, size_t slots_length,
                                    const uint8_t *accounts, size_t accounts_length);
@@ -218,8 +218,8 @@ KB_MUST_USE uint32_t kb_decode(uint32_t order, size_t tiles, const uint32_t *slo
    has this account on all its pixels: for somebody's pixel its tile, for nobody's the largest block that is all free.
    Every pixel of the block gives this answer and no other pixel does, and kb_rights answers alike on all of it: a head
    that stays inside need not ask again while the scan stays as it is (kb_lookup_has).
-     refuses   the scan checks, KB_POINT_OUTSIDE, KB_UNSCANNED; account, corner and size are then 0, which says nothing:
-               the free pixel (0, 0) can have these too, so look at the number first
+     refuses   the opening checks, KB_POINT_OUTSIDE, KB_UNSCANNED; account, corner and size are then 0, which says
+               nothing: the free pixel (0, 0) can have these too, so look at the number first
      storage   nothing is written */
 KB_MUST_USE kb_lookup_answer kb_lookup(uint32_t kind, uint32_t order, uint32_t pixels, size_t tiles,
                                        const uint32_t *slots, size_t slots_length, uint32_t column, uint32_t row);
@@ -243,7 +243,7 @@ KB_MUST_USE kb_part_answer kb_part(uint32_t order, size_t tiles, const uint32_t 
        guests     yes         no         no                no                  no
    Unscanned ground is refused, whoever asks. An account cut to a byte on its way here, 257 to 1, asks as another: see
    kb_account_byte.
-     refuses   the scan checks, KB_POINT_OUTSIDE, KB_UNSCANNED, KB_ASKER_INVALID
+     refuses   the opening checks, KB_POINT_OUTSIDE, KB_UNSCANNED, KB_ASKER_INVALID
      storage   nothing is written */
 KB_MUST_USE kb_rights_answer kb_rights(uint32_t kind, uint32_t order, uint32_t pixels, size_t tiles,
                                        const uint32_t *slots, size_t slots_length, uint32_t column, uint32_t row,
@@ -253,7 +253,8 @@ KB_MUST_USE kb_rights_answer kb_rights(uint32_t kind, uint32_t order, uint32_t p
    0, releases them too: hand over kb_account_byte(account) if yours may not fit. A map that is no scan of yours is
    handed over with kind KB_ROWS and 4^order pixels, here and wherever a record is asked for, but only if every pixel of
    it is known: ground that nobody has looked at would be answered as free.
-     refuses   the scan checks, KB_BLOCK_INVALID, KB_UNSCANNED (a release too), KB_ACCOUNT_TOO_LARGE, KB_SLOTS_EXCEEDED
+     refuses   the opening checks, KB_BLOCK_INVALID, KB_UNSCANNED (a release too), KB_ACCOUNT_TOO_LARGE,
+               KB_SLOTS_EXCEEDED
      answers   the new tile count. The old one no longer goes with these slots: it may cut tiles off the list, whose
                ground then reads as free. The record goes on with the new tile count and the same pixels, so that an
                unfinished scan can be fed on.
@@ -266,7 +267,8 @@ KB_MUST_USE kb_claim_answer kb_claim(uint32_t kind, uint32_t order, uint32_t pix
 /* Tells what a claim would come to, before it is made: what kb_claim would answer to the same arguments on a copy of
    the list with as many slots, whatever stands behind the list. Account 0 previews a release; so does one cut to a byte
    on its way here, 256 to 0: see kb_account_byte. The answer holds while scan and number of slots stay as they are.
-     refuses   as kb_claim: the scan checks, KB_BLOCK_INVALID, KB_UNSCANNED, KB_ACCOUNT_TOO_LARGE, KB_SLOTS_EXCEEDED
+     refuses   the opening checks, KB_BLOCK_INVALID, KB_UNSCANNED, KB_ACCOUNT_TOO_LARGE, KB_SLOTS_EXCEEDED, as kb_claim
+               does
      answers   the tile count that the claim would leave. Before the claim is made it is not the count of these slots
      storage   nothing is written */
 KB_MUST_USE kb_preview_answer kb_preview(uint32_t kind, uint32_t order, uint32_t pixels, size_t tiles,
@@ -277,7 +279,7 @@ KB_MUST_USE kb_preview_answer kb_preview(uint32_t kind, uint32_t order, uint32_t
    of roster entries in 1 and each entry in 5, an account in 1 byte and the number of its pixels in 4, as many as
    kb_decode writes for it. High bytes come first. Every account that has tiles gets one entry, by rising account. With
    t tiles and a such accounts the file is 6 + 4t + 5a bytes long.
-     refuses   the scan checks, KB_UNSCANNED for an unfinished scan, KB_BYTES_TOO_FEW
+     refuses   the opening checks, KB_UNSCANNED for an unfinished scan, KB_BYTES_TOO_FEW
      answers   the bytes written
      storage   accepted, the first bytes hold the file and those past it are as they were; refused, all are */
 KB_MUST_USE kb_write_answer kb_write(uint32_t kind, uint32_t order, uint32_t pixels, size_t tiles,
