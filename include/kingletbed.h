@@ -464,26 +464,26 @@ KB_MUST_USE static inline kb_part_tiles_answer kb_scan_part(const kb_scan *scan,
    KB_NO_ACCOUNT: then draw the part, `length` tiles from `tiles` on. Where `scanned` is 1, the ground between these is
    free; where it is 0, it is nobody's or not scanned yet. So KB_UNSCANNED is no refusal here. Refused, the part is
    empty, the account KB_NO_ACCOUNT and `scanned` 0.
-     refuses   the list checks, KB_BLOCK_INVALID, KB_SCANNED_TOO_LARGE, KB_TILE_UNSCANNED */
+     refuses   the opening checks, KB_BLOCK_INVALID */
 typedef struct { uint32_t number; const uint32_t *tiles; size_t length; uint8_t account; uint8_t scanned; }
     kb_shown_answer;
 
 KB_MUST_USE static inline kb_shown_answer kb_scan_shown(const kb_scan *scan, uint64_t corner, uint64_t size)
 {
+    uint32_t last = kb_number_word(corner) + kb_extent(kb_number_word(size)).pixels - 1;
+    kb_point_answer at = kb_point(scan->order, last);
+    uint32_t off = at.number == KB_ACCEPTED ? 0 : UINT32_MAX; /* off the bed: then this is no block of it */
+    kb_lookup_answer found = kb_scan_lookup(scan, at.column | off, at.row | off);
     kb_part_tiles_answer part = kb_scan_part(scan, corner, size);
     kb_shown_answer shown = {part.number, part.tiles, part.length, KB_NO_ACCOUNT, 0};
-    if (part.number != KB_ACCEPTED)
-        return shown;
-    uint32_t last = kb_number_word(corner) + kb_extent(kb_number_word(size)).pixels - 1; /* of a block, so on the bed */
-    kb_point_answer at = kb_point(scan->order, last);
-    kb_lookup_answer found = kb_scan_lookup(scan, at.column, at.row);
-    if (found.number == KB_ACCEPTED) {
+    if (found.number == KB_SCANNED_TOO_LARGE || found.number == KB_TILE_UNSCANNED) { /* which kb_part does not see */
+        kb_shown_answer refused = {found.number, scan->slots, 0, KB_NO_ACCOUNT, 0};
+        return refused;
+    }
+    if (part.number == KB_ACCEPTED && found.number == KB_ACCEPTED) {
         shown.scanned = 1;
         if (size <= found.size)
             shown.account = found.account;
-    } else if (found.number != KB_UNSCANNED) { /* pixels that do not go with this list */
-        kb_shown_answer refused = {found.number, scan->slots, 0, KB_NO_ACCOUNT, 0};
-        return refused;
     }
     return shown;
 }

@@ -1,7 +1,6 @@
 -- The plain bed (document 01, "The plain bed"): what every call means, with no list in sight. Definitions only.
 --     Bed                     order, kind, pixels scanned, and the account of each pixel by its Morton number
 --     bedOf k n s f           the bed of kind k and order n with s pixels scanned and the raster f
---     shownBed c slots        the bed that a scan record and the slots of its list show
 --     freshBed k n            a fresh scan: no pixel scanned, every account 0
 --     hasUnscanned b          a somebody's pixel is unscanned
 --     putPixel b a            the account a put on the next place
@@ -24,11 +23,9 @@ use Rattle.refusal.specs.Refusal.{accepted, tileUnscanned, scanFull, accountToo
 use Rattle.refusal.specs.Refusal.{blockInvalid, unscanned}
 use Rattle.refusal.specs.Checks.{must, unless}
 use Rattle.tile.specs.Tile.{highestAccount}
-use Rattle.tile.specs.Slots.{tilesIn}
-use Rattle.quadtree.specs.Raster.{aligned, accountAt, paint}
+use Rattle.quadtree.specs.Raster.{aligned, paint}
 use Rattle.quadtree.specs.Quadtree.{quadtree}
 use Rattle.bed.specs.declared.Kind.{Kind}
-use Rattle.bed.specs.declared.Scan.{Scan}
 use Rattle.bed.specs.Places.{pixelAt, scanned, unscannedIn}
 
 pub record Bed : Type 0 where
@@ -39,9 +36,6 @@ pub record Bed : Type 0 where
 
 abbrev pub bedOf : Kind → ℕ → ℕ → (ℕ → ℕ) → Bed
 bedOf k n s f = record { order = n; kind = k; scanned = s; account = f }
-
-abbrev pub shownBed : Scan → List ℕ → Bed
-shownBed c slots = bedOf (c .kind) (c .order) (c .pixels) (accountAt (tilesIn (c .tiles) slots))
 
 abbrev pub freshBed : Kind → ℕ → Bed
 freshBed k n = bedOf k n 0 (λ z. 0)

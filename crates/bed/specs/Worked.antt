@@ -1,5 +1,5 @@
--- Lines of document 01's "Worked beds" on the plain bed, and one of its "Other calls", as one table. All are computed
--- by the checker (proofs/BedComputed.antt).
+-- Lines of document 01's "Worked beds" on the plain bed, and lines of document 02, request 5, as one table. All are
+-- computed by the checker (proofs/BedComputed.antt).
 --     rowScan n m bytes      a fresh row scan of order n with m slots, fed once
 --     Says r number taken    the feed r ended by the number, with so many pixels taken
 use mathlib.Core.Path.{_≡_}
@@ -32,9 +32,9 @@ slotsM = wordsM ++ 1 ∷ 1 ∷ []
 abbrev pub wholeM : Bed
 wholeM = bedOf Rows 2 16 bedM
 
--- a bed of order 2 by rows with the first row scanned, on which somebody has the pixel (1, 1) yet, of number 3
-abbrev pub claimedEarly : Bed
-claimedEarly = bedOf Rows 2 4 (claimed (λ z. 0) 3 0 5)
+-- a bed of order 2 by rows with the first row scanned, on which somebody already has the pixel (1, 1), of number 3
+abbrev pub heldEarly : Bed
+heldEarly = bedOf Rows 2 4 (claimed (λ z. 0) 3 0 5)
 
 -- a nobody's bed of order 2 of which s pixels are scanned
 abbrev pub nobodys : Kind → ℕ → Bed
@@ -71,14 +71,16 @@ pub record PlainLines : Type 0 where
   pub M-released : rows 2 (claimed bedM 3 0 0)
       ≡ 5 ∷ 5 ∷ 0 ∷ 0 ∷ 5 ∷ 0 ∷ 0 ∷ 9 ∷ 9 ∷ 0 ∷ 9 ∷ 9 ∷ 0 ∷ 0 ∷ 9 ∷ 9 ∷ []
   -- somebody's pixel that is unscanned gives 22, to a feed and to a claim; no list of calls leaves such a bed
-  pub unscanned-fed : Says (feedBed 6 claimedEarly rowsM) tileUnscanned 0
-  pub unscanned-claimed : claimBedCheck 6 claimedEarly 0 3 64 ≡ tileUnscanned
-  -- six pixels scanned: by rows (0, size 1) is scanned, which ends with the sixth pixel, and (4, size 1) is not; in
-  -- Morton order (0, size 1) is, and of (4, size 1) only the first two pixels are
-  pub rows-scanned : claimBedCheck 6 (nobodys Rows 6) 0 1 5 ≡ accepted
-  pub rows-unscanned : claimBedCheck 6 (nobodys Rows 5) 0 1 5 ≡ unscanned
-  pub morton-scanned : claimBedCheck 6 (nobodys Morton 6) 4 0 5 ≡ accepted
-  pub morton-unscanned : claimBedCheck 6 (nobodys Morton 6) 4 1 5 ≡ unscanned
+  pub unscanned-fed : Says (feedBed 6 heldEarly rowsM) tileUnscanned 0
+  pub unscanned-claimed : claimBedCheck 6 heldEarly 0 3 64 ≡ tileUnscanned
+  -- four pixels scanned are by rows the first row, in Morton order the block NW, (0, size 1)
+  pub rows-scanned : claimBedCheck 6 (nobodys Rows 4) 5 0 5 ≡ accepted
+  pub rows-unscanned : claimBedCheck 6 (nobodys Rows 4) 0 1 5 ≡ unscanned
+  pub morton-scanned : claimBedCheck 6 (nobodys Morton 4) 0 1 5 ≡ accepted
+  pub morton-unscanned : claimBedCheck 6 (nobodys Morton 4) 5 0 5 ≡ unscanned
+  -- (0, size 1) by rows ends with the sixth pixel: with five its last one is missing
+  pub rows-last : claimBedCheck 6 (nobodys Rows 6) 0 1 5 ≡ accepted
+  pub rows-but-last : claimBedCheck 6 (nobodys Rows 5) 0 1 5 ≡ unscanned
   -- a release too, and before the account and the slots are looked at, but behind the block
   pub release-unscanned : claimBedCheck 6 (nobodys Rows 6) 4 1 0 ≡ unscanned
   pub unscanned-first : claimBedCheck 0 (nobodys Rows 6) 4 1 64 ≡ unscanned

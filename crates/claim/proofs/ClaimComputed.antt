@@ -2,8 +2,8 @@
 use mathlib.Core.Path.{refl}
 use Rattle.basics.specs.Choice.{if, some}
 use Rattle.refusal.specs.Checks.{must, orElse, unless}
-use Rattle.tile.specs.Tile.{tileOf}
-use Rattle.tile.specs.Slots.{tilesIn}
+use Rattle.tile.specs.Tile.{wordOf, tileOf}
+use Rattle.tile.specs.Slots.{tilesIn, filled}
 use Rattle.quadtree.specs.Raster.{aligned, uniform, paint, accountAt}
 use Rattle.quadtree.specs.Quadtree.{single, four, blocks, quadtree}
 use Rattle.list_check.specs.ListCheck.{follows, lastOfFour, ended, soundCheck, wordCheck, wordsCheck, listCheck}
@@ -16,7 +16,7 @@ use Rattle.claim.specs.Preview.{previewOf}
 use Rattle.claim.specs.Worked.{PreviewLines}
 
 pub preview-lines : PreviewLines
-unfolding if some must orElse unless tileOf tilesIn aligned uniform paint accountAt single four blocks quadtree follows lastOfFour ended soundCheck wordCheck wordsCheck listCheck column row placeOf scanned coversUnscanned opening blockIn claimCheck claimRefusal claimOf previewOf
+unfolding if some must orElse unless wordOf tileOf tilesIn filled aligned uniform paint accountAt single four blocks quadtree follows lastOfFour ended soundCheck wordCheck wordsCheck listCheck column row placeOf scanned coversUnscanned opening blockIn claimCheck claimRefusal claimOf previewOf
 preview-lines = record {
   release = refl;
   five = refl;
@@ -41,5 +41,9 @@ preview-lines = record {
   halfway-release = refl;
   halfway-none = refl;
   halfway-whole = refl;
+  halfway-kept = refl;
+  halfway-left = refl;
+  rows-four = refl;
+  morton-four = refl;
   slots-last = refl;
 }

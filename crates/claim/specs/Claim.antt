@@ -12,7 +12,8 @@ use Rattle.tile.specs.Tile.{Tile}
 use Rattle.tile.specs.Slots.{filled}
 use Rattle.quadtree.specs.Quadtree.{quadtree}
 use Rattle.bed.specs.declared.Scan.{Scan}
-use Rattle.bed.specs.Bed.{shownBed, claimed, claimCheck}
+use Rattle.bed.specs.Bed.{claimed, claimCheck}
+use Rattle.bed.specs.Shown.{shownBed}
 use Rattle.scan_check.specs.Opening.{opening}
 use Rattle.claim.specs.declared.Claimed.{Claimed}
 

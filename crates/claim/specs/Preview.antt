@@ -13,7 +13,8 @@ use Rattle.refusal.specs.Refusal.{accepted}
 use Rattle.refusal.specs.Checks.{unless}
 use Rattle.quadtree.specs.Quadtree.{quadtree}
 use Rattle.bed.specs.declared.Scan.{Scan}
-use Rattle.bed.specs.Bed.{shownBed, claimed}
+use Rattle.bed.specs.Bed.{claimed}
+use Rattle.bed.specs.Shown.{shownBed}
 use Rattle.claim.specs.declared.Claimed.{Claimed}
 use Rattle.claim.specs.Claim.{claimRefusal, claimOf}
 

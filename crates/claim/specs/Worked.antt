@@ -1,11 +1,11 @@
--- Worked lines of previews, on bed M of document 01 and one on a bed of order 1, as one table. All are computed by the
--- checker (proofs/ClaimComputed.antt).
+-- Worked lines of previews, and of claims in the middle of a scan, on bed M of document 01 and others, as one table.
+-- All are computed by the checker (proofs/ClaimComputed.antt).
 use mathlib.Core.Path.{_≡_}
 use mathlib.Core.List.{List, [], _∷_, _++_}
 use Prim.Native.Nat.{ℕ}
 use Rattle.refusal.specs.Refusal.{accepted, orderTooLarge, countAboveSlots, tilesOverlap, scannedTooLarge}
 use Rattle.refusal.specs.Refusal.{tileUnscanned, accountTooLarge, slotsExceeded, blockInvalid, unscanned}
-use Rattle.bed.specs.declared.Kind.the-variants.{Rows}
+use Rattle.bed.specs.declared.Kind.the-variants.{Rows, Morton}
 use Rattle.bed.specs.declared.Scan.{Scan}
 use Rattle.bed.specs.Places.{scanOf}
 use Rattle.bed.specs.Worked.{wordsM, slotsM}
@@ -67,4 +67,11 @@ pub record PreviewLines : Type 0 where
   pub halfway-release : previewOf halfway slotsM 0 1 0 ≡ answered accepted 1
   pub halfway-none : previewOf halfway slotsM 8 1 0 ≡ answered unscanned 0
   pub halfway-whole : previewOf halfway slotsM 0 2 0 ≡ answered unscanned 0
+  -- refused, a claim leaves the slots; accepted, it leaves the list of the scan so far, and zeros
+  pub halfway-kept : claimOf halfway slotsM 8 1 5 ≡ record { answer = answered unscanned 0; storage = slotsM }
+  pub halfway-left : claimOf halfway slotsM 4 0 5
+      ≡ record { answer = answered accepted 3; storage = 69 ∷ 4101 ∷ 7177 ∷ 0 ∷ 0 ∷ 0 ∷ [] }
+  -- four pixels are by rows the first row, in Morton order the block NW
+  pub rows-four : previewOf (scanOf Rows 2 4 0) slotsM 0 1 5 ≡ answered unscanned 0
+  pub morton-four : previewOf (scanOf Morton 2 4 0) slotsM 0 1 5 ≡ answered accepted 1
   pub slots-last : previewOf scanM wordsM 3 0 9 ≡ answered slotsExceeded 0

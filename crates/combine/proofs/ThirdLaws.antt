@@ -1,6 +1,7 @@
 -- What an accepted combine leaves.
 --     third-map          by any rule that makes accounts: it is the third map of two maps of one order
 --     third-map-choice   by the rule of a choice: it is the one that document 02 asks for
+--     third-scanned      with the first map's kind and pixels scanned it passes the opening checks
 use mathlib.Core.Path.{_≡_, refl, ap, sym, _∙_}
 use mathlib.Core.List.{List, map}
 use Prim.Native.Nat.{ℕ, _-_, _^_, _≤_, _<_}
@@ -20,12 +21,14 @@ use Rattle.quadtree.proofs.Linear.{quadtree-largest, quadtree-low}
 use Rattle.quadtree.proofs.Laws.{linear, valid, round-trip, minimum}
 use Rattle.quadtree.proofs.Shown.{accountAt-low}
 use Rattle.list_check.proofs.Accepts.{listCheck-filled}
+use Rattle.bed.specs.Places.{scanOf}
+use Rattle.scan_check.proofs.Opening.{opening-opened, opened-opening}
 use Rattle.combine_rule.specs.declared.Choice.{Choice}
 use Rattle.combine_rule.specs.Rule.{ruleOf, MakesAccounts, thirdRaster}
-use Rattle.combine_rule.proofs.RuleCases.{rule-accounts}
+use Rattle.combine_rule.proofs.RuleCases.{rule-accounts, rule-nobody}
 use Rattle.combine.specs.declared.Combined.{Combined}
 use Rattle.combine.specs.Combine.{thirdTiles, mapsCheck, combineRefusal, combineBy, combineOf}
-use Rattle.combine.specs.ThirdMap.{ThirdMap}
+use Rattle.combine.specs.ThirdMap.{ThirdMap, ThirdScanned}
 use Rattle.combine.proofs.CombineLaws.{maps-passed}
 
 module _ {rule : ℕ → ℕ → ℕ} (makes : MakesAccounts rule) (n t : ℕ) (s : List ℕ) (u : ℕ) (w : List ℕ) where
@@ -68,3 +71,12 @@ third-map rule makes n t s m u w out e =
 pub third-map-choice : (choice : Choice) (n t : ℕ) (s : List ℕ) (m u : ℕ) (w out : List ℕ) → combineOf choice n t s m u w out .answer .number ≡ accepted →
     (n ≡ m) × ThirdMap (ruleOf choice) n t s u w out (combineOf choice n t s m u w out)
 third-map-choice choice = third-map (ruleOf choice) (rule-accounts choice)
+
+-- where the first map is nobody's, so is the third
+pub third-scanned : ThirdScanned
+third-scanned choice scan s m u w out e c =
+    let o = opening-opened scan s e in
+    let t = third-map-choice choice (scan .order) (scan .tiles) s m u w out c .1 in
+    let x = combineOf choice (scan .order) (scan .tiles) s m u w out in
+    opened-opening (scanOf (scan .kind) (scan .order) (scan .pixels) (x .answer .tiles)) (x .storage) (t .checks) (o .scanned)
+    (λ z l h. t .pixels z l ∙ ap (λ (a : ℕ). ruleOf choice a (accountAt (tilesIn u w) z)) (o .blank z l h) ∙ rule-nobody choice (accountAt (tilesIn u w) z))

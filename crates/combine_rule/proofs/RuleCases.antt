@@ -2,7 +2,8 @@
 --     inside-held, inside-free     inside, at a pixel that is somebody's or nobody's on the second map
 --     outside-free, outside-held   outside
 --     rule-accounts                of two accounts it makes an account
-use mathlib.Core.Path.{_≡_}
+--     rule-nobody                  of nobody's on the first map it makes nobody's
+use mathlib.Core.Path.{_≡_, refl}
 use Prim.Native.Nat.{ℕ, zero, suc, _-_, _<_}
 use native.Mathlib.Omega.{arith}
 use Rattle.combine_rule.specs.declared.Choice.{Choice}
@@ -32,3 +33,10 @@ rule-accounts Inside a zero h l = omega arith
 rule-accounts Inside a (suc b) h l = h
 rule-accounts Outside a zero h l = h
 rule-accounts Outside a (suc b) h l = omega arith
+
+pub rule-nobody : (choice : Choice) (b : ℕ) → ruleOf choice 0 b ≡ 0
+unfolding ruleOf
+rule-nobody Inside zero = refl
+rule-nobody Inside (suc b) = refl
+rule-nobody Outside zero = refl
+rule-nobody Outside (suc b) = refl

@@ -30,7 +30,8 @@ use Rattle.bed.specs.declared.Kind.{Kind}
 use Rattle.bed.specs.declared.Kind.the-variants.{Rows}
 use Rattle.bed.specs.Places.{scanOf}
 use Rattle.bed.specs.Bed as bed
-use Rattle.bed.specs.Bed.{Bed, bedOf, shownBed, freshBed, claimed, claimCheck, claimBedCheck, feedBed, feedPixels, hasUnscanned}
+use Rattle.bed.specs.Bed.{Bed, bedOf, freshBed, claimed, claimCheck, claimBedCheck, feedBed, feedPixels, hasUnscanned}
+use Rattle.bed.specs.Shown.{shownBed}
 use Rattle.bed.proofs.BedLaws.{Good, paint-agree, paint-accounts, claimCheck-agree, claim-passed, FedAlike, feedPixels-alike}
 use Rattle.scan.specs.FreshScan.{freshOf}
 use Rattle.scan_check.specs.Opening.{opening}

@@ -32,7 +32,7 @@ use Rattle.mapfile_read.specs.Reader.{tilesCheck, fileCheck, fileOrder, readBed
 use Rattle.scan_check.specs.Opening.{opening}
 use Rattle.demands.specs.Calls.{Call, fresh, feed, claim, read, Answer, State, PlainStep, plainly, plainStep, plainFed, claimedBed, plainAnswers, plainLeft, Begins}
 use Rattle.demands.proofs.Kept.{keptBy, Kept}
-use Rattle.demands.proofs.UnscannedAlike.{none-unscanned}
+use Rattle.demands.proofs.UnscannedAlike.{blank-none}
 use Rattle.demands.proofs.CallSteps.{kept-opening}
 
 pub record Clear (b : Bed) : Type 0 where
@@ -40,7 +40,7 @@ pub record Clear (b : Bed) : Type 0 where
   pub blank : (z : ℕ) → z < 4 ^ b .order → b .scanned ≤ placeOf (b .kind) (b .order) z → b .account z ≡ 0
 
 clear-none : (b : Bed) → Clear b → hasUnscanned b ≡ false
-clear-none b h = none-unscanned (b .kind) (b .order) (b .scanned) 0 (b .account) (h .blank)
+clear-none b h = blank-none (b .kind) (b .order) (b .scanned) 0 (b .account) (h .blank)
 
 -- the number is another one
 abbrev Other : ℕ → Type 0

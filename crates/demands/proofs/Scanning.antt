@@ -29,7 +29,7 @@ use Rattle.scan.specs.FreshScan.{freshOf}
 use Rattle.demands.specs.Calls.{Answer, State, step, plainStep, plainFed, feed}
 use Rattle.demands.specs.Demands.{freshState, afterFeeds, taken, countsAnswered, scanRaster, scanBed}
 use Rattle.demands.proofs.Kept.{keptBy, Kept}
-use Rattle.demands.proofs.UnscannedAlike.{none-unscanned}
+use Rattle.demands.proofs.UnscannedAlike.{blank-none}
 use Rattle.demands.proofs.CallSteps.{Agrees, fresh-kept, step-agrees}
 
 -- what is kept goes by the raster's accounts on the bed
@@ -112,7 +112,7 @@ module _ (k : Kind) (n : ℕ) where
   feedPixels-took m j px (a ∷ bytes) w = pixel-took m j a px bytes w (λ v. feedPixels-took m (j + 1) (px ++ a ∷ []) bytes v)
 
   scanned-clear : (px : List ℕ) → hasUnscanned (scanBed k n px) ≡ false
-  scanned-clear px = none-unscanned k n (length px) 0 (scanRaster k n px) (λ z h l. List·getD-eq-default px 0 {n = placeOf k n z} l)
+  scanned-clear px = blank-none k n (length px) 0 (scanRaster k n px) (λ z h l. List·getD-eq-default px 0 {n = placeOf k n z} l)
 
   plain-feed : (m : ℕ) (px bytes : List ℕ) → plainStep m (scanBed k n px) (feed bytes) ≡ plainFed (feedPixels m 0 (scanBed k n px) bytes)
   unfolding plainStep feedBed if

@@ -1,6 +1,6 @@
 -- Check 22 read two ways: a tile of the linear quadtree covers an unscanned pixel just if a somebody's pixel of its raster is unscanned.
 --     unscanned-alike   the two tests have one answer
---     none-unscanned    a bed whose unscanned pixels are nobody's passes
+--     blank-none    a bed whose unscanned pixels are nobody's passes
 use mathlib.Core.Path.{_≡_, refl}
 use mathlib.Core.Bool.{Bool, false, _||_, not}
 use mathlib.Core.List.{List, [], _∷_, List·Memᴰ·head, List·Memᴰ·tail, List·Memᴰ·not-nil, List·Memᴰ·cases-cons}
@@ -59,8 +59,8 @@ module _ (k : Kind) (n s x : ℕ) where
       (h .0, h .1, (r .0, h .2 .0, h .2 .1, r .3 .1)))
 
   -- a bed whose unscanned pixels are nobody's
-  pub none-unscanned : (f : ℕ → ℕ) → ((z : ℕ) → z < 4 ^ n → s ≤ placeOf k n z → f z ≡ 0) → hasUnscanned (record { order = n; kind = k; scanned = s; account = f }) ≡ false
-  none-unscanned f blank = fails-false (test-owned f) (λ r. omega (arith, r .3 .0, blank (r .0) (omega (arith, r .2)) (outside (r .0) (r .3 .1))))
+  pub blank-none : (f : ℕ → ℕ) → ((z : ℕ) → z < 4 ^ n → s ≤ placeOf k n z → f z ≡ 0) → hasUnscanned (record { order = n; kind = k; scanned = s; account = f }) ≡ false
+  blank-none f blank = fails-false (test-owned f) (λ r. omega (arith, r .3 .0, blank (r .0) (omega (arith, r .2)) (outside (r .0) (r .3 .1))))
     where
       outside : (z : ℕ) → Unscanned k n s z → s ≤ placeOf k n z
       outside z u = elim (decLe s (placeOf k n z)) [ yes h ↦ h | no h ↦ absurd (u (omega arith)) ]

@@ -25,7 +25,8 @@ use Rattle.bed.specs.declared.Kind.the-variants.{Rows}
 use Rattle.bed.specs.declared.Scan.{Scan}
 use Rattle.bed.specs.Places.{scanOf}
 use Rattle.bed.specs.Bed as bed
-use Rattle.bed.specs.Bed.{Bed, bedOf, shownBed, putPixel, pixelCheck, feedPixels}
+use Rattle.bed.specs.Bed.{Bed, bedOf, putPixel, pixelCheck, feedPixels}
+use Rattle.bed.specs.Shown.{shownBed}
 use Rattle.bed.proofs.BedLaws.{Good, pixelCheck-passed, FedAlike, feedPixels-alike}
 use Rattle.scan.specs.declared.Fed.{Fed}
 use Rattle.scan.specs.FreshScan.{freshOf}

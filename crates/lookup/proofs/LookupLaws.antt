@@ -16,7 +16,7 @@ use Rattle.tile.specs.Tile.{Tile}
 use Rattle.tile.specs.Slots.{tilesIn}
 use Rattle.bed.specs.declared.Scan.{Scan}
 use Rattle.bed.specs.Places.{placeOf}
-use Rattle.bed.specs.Bed.{shownBed}
+use Rattle.bed.specs.Shown.{shownBed}
 use Rattle.checks.proofs.AskedLaws.{point-inside, point-passed}
 use Rattle.scan_check.specs.Opening.{opening}
 use Rattle.scan_check.specs.Opened.{Opened}

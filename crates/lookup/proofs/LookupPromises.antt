@@ -28,7 +28,8 @@ use Rattle.quadtree.proofs.Linear.{quadtree-largest, quadtree-low}
 use Rattle.list_check.proofs.Accepts.{listCheck-filled}
 use Rattle.bed.specs.declared.Scan.{Scan}
 use Rattle.bed.specs.Places.{scanOf, placeOf}
-use Rattle.bed.specs.Bed.{Bed, shownBed}
+use Rattle.bed.specs.Bed.{Bed}
+use Rattle.bed.specs.Shown.{shownBed}
 use Rattle.bed.proofs.ScannedBlocks.{place-upto}
 use Rattle.checks.proofs.AskedLaws.{block-passed}
 use Rattle.scan_check.specs.Opening.{opening}

@@ -2,7 +2,7 @@
 --     from-first, from-behind, upto-ahead, upto-end   where a stretch starts and ends
 --     shownBy us z i           what the last of the i tiles at the front of us shows at z
 --     accountAt-shownBy        where i tiles start by z, that is the account of the list
---     Stretch f end lo hi z    z lies in the free stretch from lo up to hi: a run of nobody's from its first number on
+--     Stretch f end lo hi z    z lies in the stretch from lo up to hi, a run of nobody's from its first number on
 --     largest-first, -ahead, -behind   the largest block in a stretch, short of what lies on either side
 --     pixel-scanned            a scanned pixel is a scanned block of size 0
 --     stretch-names            the largest scanned block in it that has z is the one named
@@ -34,7 +34,8 @@ use Rattle.quadtree.proofs.Chains.{chain-rising, chain-before}
 use Rattle.quadtree.proofs.Linear.{valid-linear}
 use Rattle.bed.specs.declared.Scan.{Scan}
 use Rattle.bed.specs.Places.{placeOf}
-use Rattle.bed.specs.Bed.{bedOf, shownBed}
+use Rattle.bed.specs.Bed.{bedOf}
+use Rattle.bed.specs.Shown.{shownBed}
 use Rattle.scan_check.specs.Opened.{Opened}
 use Rattle.list_search.specs.Cut.{Cut}
 use Rattle.list_search.specs.Count.{isAhead, counted}

@@ -11,7 +11,7 @@ use Rattle.morton.specs.Morton.{morton}
 use Rattle.tile.specs.Tile.{Tile}
 use Rattle.tile.specs.Slots.{tilesIn}
 use Rattle.bed.specs.declared.Scan.{Scan}
-use Rattle.bed.specs.Bed.{shownBed}
+use Rattle.bed.specs.Shown.{shownBed}
 use Rattle.checks.specs.Asked.{pointCheck}
 use Rattle.scan_check.specs.Opening.{opening}
 use Rattle.scan_check.specs.Scanned.{scannedCheck}

@@ -25,7 +25,8 @@ use Rattle.quadtree.specs.Raster.{Uniform, _∈_}
 use Rattle.quadtree.specs.Quadtree.{quadtree}
 use Rattle.bed.specs.declared.Scan.{Scan}
 use Rattle.bed.specs.Places.{scanOf, placeOf}
-use Rattle.bed.specs.Bed.{Bed, shownBed}
+use Rattle.bed.specs.Bed.{Bed}
+use Rattle.bed.specs.Shown.{shownBed}
 use Rattle.checks.specs.Asked.{blockCheck}
 use Rattle.scan_check.specs.Opening.{opening}
 use Rattle.lookup.specs.declared.Found.{Found}

@@ -1,4 +1,5 @@
--- Inner: the free stretch between two tiles of a list, and the largest block in it that has a pixel. Definitions only.
+-- Inner: the stretch of nobody's between two tiles of a list, and the largest block in it that has a pixel. Definitions
+-- only.
 --     stretchFrom slots i        where the tile ahead of slot i stops; 0 where none is ahead
 --     stretchUpto n t slots i    where the tile in slot i of the t starts, or the bed of order n ends
 --     Lies lo hi k z             the block of size k that has the pixel z lies from lo up to hi

@@ -1,5 +1,6 @@
 -- Worked lines of lookup, as one table: bed M of document 01, whose list is (0, 1, 5) (7, 0, 9) (8, 0, 9) (12, 1, 9) by
--- corner, size, account, and beds with free ground. All are computed by the checker (proofs/LookupComputed.antt).
+-- corner, size, account, beds with free ground, and scans in the middle. All are computed by the checker
+-- (proofs/LookupComputed.antt).
 use mathlib.Core.Path.{_≡_}
 use mathlib.Core.List.{[], _∷_}
 use Prim.Native.Nat.{ℕ, _^_}
@@ -49,6 +50,13 @@ pub record LookupLines : Type 0 where
   pub morton-free : lookupOf (scanOf Morton 2 10 0) [] 2 0 ≡ foundOf (tile 4 1 0)
   pub morton-front : lookupOf (scanOf Morton 2 10 0) [] 1 2 ≡ foundOf (tile 9 0 0)
   pub morton-unscanned : lookupOf (scanOf Morton 2 10 0) [] 0 3 ≡ refused unscanned
+  -- four pixels are by rows the first row, in Morton order the block NW
+  pub rows-four : lookupOf (scanOf Rows 2 4 0) [] 3 0 ≡ foundOf (tile 5 0 0)
+  pub rows-four-not : lookupOf (scanOf Rows 2 4 0) [] 0 1 ≡ refused unscanned
+  pub morton-four : lookupOf (scanOf Morton 2 4 0) [] 0 1 ≡ foundOf (tile 0 1 0)
+  pub morton-four-not : lookupOf (scanOf Morton 2 4 0) [] 3 0 ≡ refused unscanned
+  -- the one pixel of a bed of order 0, before it is scanned
+  pub none-scanned : lookupOf (scanOf Rows 0 0 0) [] 0 0 ≡ refused unscanned
   -- a tile is named whole, in the middle of a scan too
   pub tile-halfway : lookupOf (scanOf Rows 2 8 2) slotsM 0 1 ≡ foundOf (tile 0 1 5)
   -- 21 and 22 come right behind the list's checks, 31 before 52

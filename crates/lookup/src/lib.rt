@@ -1,6 +1,6 @@
 // Lookup: the account at a column and a row, and the largest block around it that is scanned and has this account.
-// Behind the checks it is one binary search: the tiles on either side of the place found bound the free stretch of a
-// nobody's pixel.
+// Behind the checks it is one binary search: the tiles on either side of the place found bound the stretch of nobody's
+// around a nobody's pixel, and a few steps lead from there to a block that is scanned.
 ghost use mathlib.Core.Path.{_≡_};
 ghost use Prim.Native.Nat.{_^_, _<_, _≤_};
 ghost use lib.ListN.{length};
@@ -8,7 +8,7 @@ ghost use Rattle.tile.specs.Tile.{tileOf, highestOrder};
 ghost use Rattle.tile.specs.Slots.{tilesIn};
 ghost use Rattle.quadtree.specs.Tiling.{Without};
 ghost use Rattle.bed.specs.Places.{placeOf};
-ghost use Rattle.bed.specs.Bed.{shownBed};
+ghost use Rattle.bed.specs.Shown.{shownBed};
 ghost use Rattle.scan_check.specs.Opened.{Opened};
 ghost use Rattle.lookup.specs.Block.{blockAt};
 ghost use Rattle.lookup.specs.Lookup.{lookupCheck, foundOf, lookupOf};
@@ -51,7 +51,7 @@ fn tile_found(word: u32) -> Found
     }
 }
 
-// Where the tile ahead of a place in the list stops, 0 where none is: a free stretch there starts at this number.
+// Where the tile ahead of a place in the list stops, 0 where none is: a stretch of nobody's starts there.
 fn stretch_from(slots: &[u32], place: usize) -> u32
     requires { ⌜ place ≤ length (now slots) ⌝ }
     ensures { λ r. ⌜ r ≡ stretchFrom (now (slots .entry)) place ⌝ }
@@ -62,7 +62,7 @@ fn stretch_from(slots: &[u32], place: usize) -> u32
     tile::stop(slots[place - 1])
 }
 
-// Where the tile at a place in the list starts, or the bed ends: a free stretch there ends at this number.
+// Where the tile at a place in the list starts, or the bed ends: a stretch of nobody's ends there.
 fn stretch_upto(order: u32, tiles: usize, slots: &[u32], place: usize) -> u32
     requires { ⌜ (order ≤ highestOrder) × (tiles ≤ length (now slots)) ⌝ }
     ensures { λ r. ⌜ r ≡ stretchUpto order tiles (now (slots .entry)) place ⌝ }
@@ -115,7 +115,7 @@ fn scanned_size(scan: Scan, size: u32, z: u32) -> u32
 }
 
 // The block that an opened scan has at the Morton number z of a scanned pixel: only the last tile that starts by z can
-// cover it, and else that tile and the next one bound the free stretch.
+// cover it, and else that tile and the next one bound the stretch of nobody's around it.
 fn block_at(scan: Scan, slots: &[u32], z: u32) -> Found
     requires { ⌜ Opened scan (now slots) × (z < 4 ^ scan .order)
         × (placeOf (scan .kind) (scan .order) z < scan .pixels) ⌝ }

@@ -27,6 +27,7 @@ total-lines = record {
   M-written = refl;
   M-morton = refl;
   M-short = refl;
+  none-scanned = refl;
   M-read = refl;
   M-tiles-5 = refl;
   M-rows-5 = refl;

@@ -5,19 +5,21 @@
 --     slots-accounts    the tiles of words in slots have accounts up to the highest
 --     write-passed      what is known past the writer's checks; written-file, what it then leaves
 --     read-written      the same of the two calls: what an accepted write left is read
---     written-whole     and it has every pixel scanned
---     writes-scanned    52 keeps from writing just what has an unscanned pixel
+--     written-whole     and its record is the one written, but for the kind
+--     writes-scanned    the writer answers 52 just where a pixel is unscanned
 use mathlib.Core.Path.{_≡_, refl, ap, sym, _∙_}
+use mathlib.Core.Logic.{_↔_}
 use mathlib.Core.List.{List, [], _∷_, map, append-nil, List·Memᴰ, List·Memᴰ·head, List·Memᴰ·tail}
 use Prim.Native.Nat.{ℕ, _+_, _*_, _^_, _≤_, _<_}
 use native.Mathlib.Omega.{arith}
 use lib.ListN.{length, take, drop, length-map}
+use lib.Dec.{leb}
 use lib.Seq.{drop-drop, drop-at, take-at}
 use borrow.Author.Tests.{le-leb}
 use Rattle.basics.proofs.Tests.{test-leb}
-use Rattle.refusal.specs.Refusal.{accepted}
-use Rattle.refusal.specs.Checks.{must, orElse}
-use Rattle.refusal.proofs.CheckLaws.{must-inv, else-on, else-inv}
+use Rattle.refusal.specs.Refusal.{accepted, bytesTooFew, unscanned}
+use Rattle.refusal.specs.Checks.{must, orElse, After}
+use Rattle.refusal.proofs.CheckLaws.{must-inv, must-not, else-on, else-off, else-inv, unless-number}
 use Rattle.tile.specs.Tile.{Tile, tileOf, wordOf, highestOrder, highestAccount}
 use Rattle.tile.specs.Slots.{tilesIn, filled}
 use Rattle.tile.proofs.TileLaws.{Packable, tileOf-account, wordOf-low}
@@ -29,8 +31,11 @@ use Rattle.quadtree.proofs.ValidLaws.{valid-quadrant, valid-length}
 use Rattle.list_check.specs.ListCheck.{wordsCheck}
 use Rattle.list_check.proofs.Accepts.{wordsCheck-valid}
 use Rattle.bed.specs.declared.Scan.{Scan}
+use Rattle.bed.specs.Places.{scanOf, placeOf}
+use Rattle.bed.proofs.ScannedBlocks.{AllScanned}
 use Rattle.scan_check.specs.Opened.{Opened}
-use Rattle.scan_check.proofs.ScannedLaws.{finished-passed, finished-all}
+use Rattle.scan_check.specs.Scanned.{finishedCheck}
+use Rattle.scan_check.proofs.ScannedLaws.{finished-passed, finished-refused, finished-all}
 use Rattle.scan_check.proofs.Opening.{opening-opened}
 use Rattle.mapfile_bytes.specs.Items.{wordAt, wordsAt}
 use Rattle.mapfile_bytes.proofs.ItemsLaws.{word-whole}
@@ -41,6 +46,7 @@ use Rattle.mapfile_entries.specs.RosterCheck.{rosterCheck}
 use Rattle.mapfile_read.specs.Reader.{tilesCheck, fileOrder, fileCount, fileCheck, readOf}
 use Rattle.mapfile_read.proofs.ReaderLaws.{tilesCheck-words, readOf-accepted}
 use Rattle.mapfile_sections.specs.Sections.{wordsBytes, entriesBytes}
+use Rattle.mapfile_write.specs.declared.Written.{Written}
 use Rattle.mapfile_write.specs.Writer.{fileOf, readyCheck, writeCheck, writeOf}
 use Rattle.mapfile_write.proofs.WriterLaws.{length-wordsBytes, fileOf-bytes, writeOf-accepted, ready-opened}
 use Rattle.mapfile_laws.specs.RoundTrip.{ReadWritten, WrittenWhole, WritesScanned}
@@ -138,12 +144,34 @@ read-written scan slots file others e c =
     rw (written-file scan slots file e)
     (read-write n (tilesIn t slots) (v .order) (v .valid) (slots-accounts t slots) others (omega arith) ∙ rw (l, filled-tilesIn (length others) t slots (v .count)))
 
+write-number : (scan : Scan) (slots file : List ℕ) → writeOf scan slots file .answer .number ≡ writeCheck scan slots file
+unfolding writeOf
+write-number scan slots file = unless-number (λ (x : After Written). x .answer .number) (writeCheck scan slots file) (λ r. refl) refl
+
 pub written-whole : WrittenWhole
 unfolding readyCheck
-written-whole scan slots file e = finished-passed scan (else-inv _ _ (write-passed scan slots file e .ready) .1)
+written-whole scan slots file others e c =
+    let p = sym (write-number scan slots file) ∙ e in
+    let whole = finished-passed scan (else-inv _ _ (write-passed scan slots file p .ready) .1) in
+    rw (read-written scan slots file others p c) (ap (λ (s : ℕ). scanOf (scan .kind) (scan .order) s (scan .tiles)) (sym whole))
 
 pub writes-scanned : WritesScanned
-unfolding readyCheck
-writes-scanned scan slots e =
-    let w = finished-all scan (opening-opened scan slots e .scanned) in
-    (λ r z h. w .0 (else-inv _ _ r .1) z (omega arith) (omega arith), λ a. else-on _ _ e ∙ w .1 (λ z l h. a z (omega arith)))
+unfolding writeCheck readyCheck
+writes-scanned scan slots file e = (there, back)
+  where
+    w : (finishedCheck scan ≡ accepted) ↔ AllScanned (scan .kind) (scan .order) (scan .pixels) 0 (scan .order)
+    w = finished-all scan (opening-opened scan slots e .scanned)
+
+    bytes : List ℕ
+    bytes = fileOf (scan .order) (tilesIn (scan .tiles) slots)
+
+    there : writeOf scan slots file .answer .number ≡ unscanned → ((z : ℕ) → z < 4 ^ scan .order → placeOf (scan .kind) (scan .order) z < scan .pixels) → ⊥
+    there q a =
+        let p = sym (write-number scan slots file) ∙ q in
+        let r = else-on _ _ e ∙ w .1 (λ z l h. a z (omega arith)) in
+        must-not (leb (length bytes) (length file)) bytesTooFew accepted (λ x. omega arith) (λ x. omega arith) (sym (else-on _ _ r) ∙ p)
+
+    back : (((z : ℕ) → z < 4 ^ scan .order → placeOf (scan .kind) (scan .order) z < scan .pixels) → ⊥) → writeOf scan slots file .answer .number ≡ unscanned
+    back none =
+        let r = else-on _ _ e ∙ finished-refused scan (λ x. none (λ z h. w .0 x z (omega arith) (omega arith))) in
+        write-number scan slots file ∙ else-off _ _ (λ x. omega (arith, r)) ∙ r

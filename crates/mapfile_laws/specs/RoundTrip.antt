@@ -1,21 +1,21 @@
--- "Reading a written file yields the same list and order" (document 01, "The map file"); only of a finished scan is a
--- file written (document 02, request 5). Definitions only.
+-- "Reading a written file yields the same list and order" (document 01, "The map file"); a file is written of a
+-- finished scan alone (document 02, request 5). Definitions only.
 --     ReadWritten    what an accepted write leaves, read into slots that have room for it, gives back the order and the
 --                    tile count; the slots then hold the list, and 0 behind it
---     WrittenWhole   what is written has every pixel scanned, as the record of a map that was read has: nothing of the
---                    record is lost but its kind
---     WritesScanned  of what passes the opening checks, 52 keeps from writing just what has an unscanned pixel
+--     WrittenWhole   the record of the map that is read is then the one written, but for its kind, which is by rows
+--     WritesScanned  of what passes the opening checks, the writer answers 52 just where a pixel is unscanned
 use mathlib.Core.Path.{_≡_}
 use mathlib.Core.List.{List, _++_}
 use mathlib.Core.Logic.{_↔_}
 use Prim.Native.Nat.{ℕ, _-_, _^_, _≤_, _<_}
 use lib.ListN.{length, take, replicate}
-use Rattle.refusal.specs.Refusal.{accepted}
+use Rattle.refusal.specs.Refusal.{accepted, unscanned}
 use Rattle.bed.specs.declared.Scan.{Scan}
-use Rattle.bed.specs.Places.{placeOf}
+use Rattle.bed.specs.Places.{scanOf, placeOf}
 use Rattle.scan_check.specs.Opening.{opening}
+use Rattle.mapfile_read.specs.declared.Reading.{Reading}
 use Rattle.mapfile_read.specs.Reader.{readOf}
-use Rattle.mapfile_write.specs.Writer.{readyCheck, writeCheck, writeOf}
+use Rattle.mapfile_write.specs.Writer.{writeCheck, writeOf}
 
 abbrev pub ReadWritten : Type 0
 ReadWritten = (scan : Scan) (slots file others : List ℕ) →
@@ -27,10 +27,13 @@ ReadWritten = (scan : Scan) (slots file others : List ℕ) →
     }
 
 abbrev pub WrittenWhole : Type 0
-WrittenWhole = (scan : Scan) (slots file : List ℕ) → writeCheck scan slots file ≡ accepted →
-    scan .pixels ≡ 4 ^ scan .order
+WrittenWhole = (scan : Scan) (slots file others : List ℕ) →
+    writeOf scan slots file .answer .number ≡ accepted → scan .tiles ≤ length others →
+    let written = writeOf scan slots file in
+    let map : Reading = readOf (take (written .answer .length) (written .storage)) others .answer in
+    scanOf (scan .kind) (map .order) (4 ^ map .order) (map .tiles) ≡ scan
 
 abbrev pub WritesScanned : Type 0
-WritesScanned = (scan : Scan) (slots : List ℕ) → opening scan slots ≡ accepted →
-    (readyCheck scan slots ≡ accepted)
-    ↔ ((z : ℕ) → z < 4 ^ scan .order → placeOf (scan .kind) (scan .order) z < scan .pixels)
+WritesScanned = (scan : Scan) (slots file : List ℕ) → opening scan slots ≡ accepted →
+    (writeOf scan slots file .answer .number ≡ unscanned)
+    ↔ (((z : ℕ) → z < 4 ^ scan .order → placeOf (scan .kind) (scan .order) z < scan .pixels) → ⊥)

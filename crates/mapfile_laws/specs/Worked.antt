@@ -29,13 +29,14 @@ pub record TotalLines : Type 0 where
     answer = record { number = accepted; length = 32 };
     storage = fileM ++ 1 ∷ [];
   }
-  -- so it is where M was scanned in Morton order; one pixel short of M, all of whose tiles end by then, no file is
-  -- written, and that is told before the bytes are looked at
+  -- so it is where M was scanned in Morton order; of an unfinished scan, as one with three of M's tiles and one pixel
+  -- short of the bed, no file is written, and that is told before the bytes are looked at; nor of a pixel not scanned
   pub M-morton : writeOf (scanOf Morton 2 16 4) wordsM (replicate 33 1) .storage ≡ fileM ++ 1 ∷ []
   pub M-short : writeOf (scanOf Rows 2 15 3) (69 ∷ 7177 ∷ 8201 ∷ []) [] ≡ record {
     answer = record { number = unscanned; length = 0 };
     storage = [];
   }
+  pub none-scanned : writeOf (scanOf Rows 0 0 0) [] (replicate 6 1) .answer .number ≡ unscanned
   pub M-read : readOf fileM (replicate 5 1) ≡ record {
     answer = record { number = accepted; order = 2; tiles = 4 };
     storage = wordsM ++ 0 ∷ [];

@@ -1,27 +1,30 @@
 -- The offered call by lookup's answer.
 --     rights-by-lookup                   `RightsByLookup`: the call rests on lookup's answer
 --     rights-alike                       `RightsAlike`: it answers the same on all of the block that lookup names
+--     rights-scanned                     `RightsScanned`: a yes is of a scanned pixel
 --     rightsOf-lookup, -asker, -answer   lookup's refusal; else 34; else the table, for the account that lookup answers
 use mathlib.Core.Path.{_≡_, refl, ap, sym, _∙_}
-use mathlib.Core.Bool.{Bool, false}
+use mathlib.Core.Bool.{Bool, true, false}
 use mathlib.Core.List.{List}
-use Prim.Native.Nat.{ℕ}
+use Prim.Native.Nat.{ℕ, _^_, _<_}
+use native.Mathlib.Omega.{arith}
 use Rattle.refusal.specs.Refusal.{accepted}
 use Rattle.refusal.specs.Checks.{orElse, unless}
-use Rattle.refusal.proofs.CheckLaws.{else-on, else-off, else-inv, else-else, unless-on, unless-off, unless-alike}
+use Rattle.refusal.proofs.CheckLaws.{else-on, else-off, else-inv, else-else, unless-on, unless-off, by-unless, unless-alike}
 use Rattle.morton.specs.Morton.{morton}
 use Rattle.bed.specs.declared.Scan.{Scan}
+use Rattle.bed.specs.Places.{placeOf}
 use Rattle.checks.specs.Asked.{pointCheck, askerCheck}
 use Rattle.scan_check.specs.Opening.{opening}
 use Rattle.scan_check.specs.Scanned.{scannedCheck}
 use Rattle.lookup.specs.declared.Found.{Found}
 use Rattle.lookup.specs.Lookup.{lookupCheck, lookupOf}
 use Rattle.lookup.specs.Promises.{LookupAlike}
-use Rattle.lookup.proofs.LookupLaws.{lookupOf-number}
+use Rattle.lookup.proofs.LookupLaws.{lookupCheck-passed, lookupOf-number}
 use Rattle.lookup.proofs.LookupPromises.{lookup-account, lookup-alike}
 use Rattle.rights.specs.declared.Right.{Right}
 use Rattle.rights.specs.Rights.{mayPlace, rightsCheck, rightsOf}
-use Rattle.rights.specs.Rests.{RightsByLookup, RightsAlike}
+use Rattle.rights.specs.Rests.{RightsByLookup, RightsAlike, RightsScanned}
 
 module _ (scan : Scan) (slots : List ℕ) (c r p : ℕ) where
   abbrev point : ℕ
@@ -48,6 +51,13 @@ pub rights-alike : RightsAlike
 unfolding RightsAlike RightsByLookup LookupAlike
 rights-alike scan slots c r c′ r′ p e i =
     rights-by-lookup scan slots c′ r′ p ∙ rw (lookup-alike scan slots c r c′ r′ e .1 i) (sym (rights-by-lookup scan slots c r p))
+
+pub rights-scanned : RightsScanned
+unfolding RightsScanned rightsOf
+rights-scanned scan slots c r p = by-unless
+    (λ (a : Right). a .yes ≡ true → (c < 2 ^ scan .order) × (r < 2 ^ scan .order) × (placeOf (scan .kind) (scan .order) (morton (scan .order) c r) < scan .pixels))
+    (rightsCheck scan slots c r p) (λ x e. absurd (let z : _≡_ {A = ℕ} 0 1 = cc in omega arith))
+    (λ e y. let q = lookupCheck-passed scan slots c r (else-inv _ _ (checks-grouped scan slots c r p ∙ e) .0) in (q .column, q .row, q .scanned))
 
 module _ (scan : Scan) (slots : List ℕ) (c r p : ℕ) (f : Found) (is : f ≡ lookupOf scan slots c r) where
   by-found : rightsOf scan slots c r p ≡ unless (orElse (f .number) (askerCheck p)) (λ number. record { number = number; yes = false }) (record { number = accepted; yes = mayPlace p (f .account) })

@@ -20,7 +20,7 @@ use Rattle.quadtree.proofs.Blocks.{blank-quadtree}
 use Rattle.bed.specs.declared.Kind.{Kind}
 use Rattle.bed.specs.declared.Scan.{Scan}
 use Rattle.bed.specs.Bed as bed
-use Rattle.bed.specs.Bed.{shownBed}
+use Rattle.bed.specs.Shown.{shownBed}
 use Rattle.bed.proofs.BedLaws.{Room, feedPixels-room}
 use Rattle.scan_gap.specs.Gap.{held}
 use Rattle.scan_gap.proofs.Parts.{held-length}

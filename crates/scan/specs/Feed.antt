@@ -13,7 +13,7 @@ use Rattle.quadtree.specs.Quadtree.{quadtree}
 use Rattle.bed.specs.declared.Scan.{Scan}
 use Rattle.bed.specs.Places.{scanOf}
 use Rattle.bed.specs.Bed as bed
-use Rattle.bed.specs.Bed.{shownBed}
+use Rattle.bed.specs.Shown.{shownBed}
 use Rattle.scan_check.specs.Opening.{opening}
 use Rattle.scan.specs.declared.Fed.{Fed}
 

@@ -2,6 +2,7 @@
 --     pixel-unscanned, -scanned     52 of a pixel by its place; pixel-passed, what passes
 --     block-unscanned, -scanned     52 of a block by the test; block-passed, what passes, and block-all, that it does
 --     finished-short, -whole        52 of a scan to be written; finished-passed, what passes; finished-all, that each pixel is scanned
+--     whole-pixel, whole-block      52 is met of none of them once all pixels are scanned
 --     whole-clear, blank-clear      no tile of a valid list covers an unscanned pixel, once all are scanned, or where the unscanned ones are nobody's
 use mathlib.Core.Path.{_≡_, refl, sym}
 use mathlib.Core.Bool.{Bool, true, false, not}
@@ -10,14 +11,15 @@ use mathlib.Core.Logic.{_↔_}
 use Prim.Native.Nat.{ℕ, suc, _+_, _-_, _^_, _≤_, _<_}
 use native.Mathlib.Decide.{decLt}
 use native.Mathlib.Omega.{arith}
-use Rattle.basics.proofs.Tests.{Test, holds, fails, test-leb, test-eqb}
+use lib.Dec.{eqb}
+use Rattle.basics.proofs.Tests.{Test, holds, fails, test-leb, test-eqb, test-true, told-true}
 use Rattle.refusal.specs.Refusal.{accepted, unscanned}
 use Rattle.refusal.specs.Checks.{must}
 use Rattle.refusal.proofs.CheckLaws.{must-on, must-off, must-inv}
 use Rattle.tile.specs.Tile.{Tile}
-use Rattle.quadtree.specs.Raster.{accountAt, _∈_}
+use Rattle.quadtree.specs.Raster.{Aligned, accountAt, _∈_}
 use Rattle.quadtree.specs.Valid.{Valid}
-use Rattle.quadtree.proofs.Alignment.{area-pos}
+use Rattle.quadtree.proofs.Alignment.{area-pos, aligned-room}
 use Rattle.quadtree.proofs.Chains.{quadrant-stop}
 use Rattle.quadtree.proofs.ValidLaws.{valid-quadrant}
 use Rattle.quadtree.proofs.Linear.{valid-linear}
@@ -65,25 +67,46 @@ module _ (c : Scan) (x k : ℕ) where
   block-all a = must-on unscanned accepted (test-scanned (c .kind) (c .order) (c .pixels) x k) a
 
 module _ (c : Scan) where
-  pub finished-short : (c .pixels ≡ 4 ^ c .order → ⊥) → unscanned ≡ finishedCheck c
-  unfolding finishedCheck
-  finished-short h = sym (must-off unscanned accepted (test-eqb (c .pixels) (4 ^ c .order)) h)
+  -- how `whole` tells that every pixel is scanned
+  abbrev all-seen : Bool
+  all-seen = eqb (c .pixels) (4 ^ c .order)
 
-  pub finished-whole : c .pixels ≡ 4 ^ c .order → accepted ≡ finishedCheck c
-  unfolding finishedCheck
-  finished-whole h = sym (must-on unscanned accepted (test-eqb (c .pixels) (4 ^ c .order)) h)
+  pub seen-all : true ≡ all-seen → c .pixels ≡ 4 ^ c .order
+  seen-all e = told-true (test-eqb (c .pixels) (4 ^ c .order)) (sym e)
+
+  pub finished-short : false ≡ all-seen → unscanned ≡ finishedCheck c
+  unfolding finishedCheck must
+  finished-short e = rw (← e)
+
+  pub finished-whole : true ≡ all-seen → accepted ≡ finishedCheck c
+  unfolding finishedCheck must
+  finished-whole e = rw (← e)
+
+  pub whole-pixel : true ≡ all-seen → (z : ℕ) → z < 4 ^ c .order → accepted ≡ scannedCheck c z
+  whole-pixel e z h = pixel-scanned c z (omega (arith, seen-all e, placeOf-lt (c .kind) (c .order) z h))
+
+  pub whole-block : true ≡ all-seen → (x k : ℕ) → k ≤ c .order → x < 4 ^ c .order → Aligned k x → accepted ≡ blockScannedCheck c x k
+  whole-block e x k h l m =
+      sym (block-all c x k (λ z i j. omega (arith, seen-all e, placeOf-lt (c .kind) (c .order) z (omega (arith, aligned-room h m l)))))
 
   pub finished-passed : finishedCheck c ≡ accepted → c .pixels ≡ 4 ^ c .order
   unfolding finishedCheck
   finished-passed e = must-inv (test-eqb (c .pixels) (4 ^ c .order)) (omega arith) e .0
 
+  pub finished-refused : (finishedCheck c ≡ accepted → ⊥) → finishedCheck c ≡ unscanned
+  unfolding finishedCheck
+  finished-refused h = must-off unscanned accepted (test-eqb (c .pixels) (4 ^ c .order)) (λ e. h (must-on unscanned accepted (test-eqb (c .pixels) (4 ^ c .order)) e))
+
   -- the last place of the scan is that of a pixel
   pub finished-all : c .pixels ≤ 4 ^ c .order → (finishedCheck c ≡ accepted) ↔ AllScanned (c .kind) (c .order) (c .pixels) 0 (c .order)
-  finished-all few = (λ e z l h. omega (arith, finished-passed e, placeOf-lt (c .kind) (c .order) z (omega arith)), λ a.
-      let pos = area-pos (c .order) in
-      let last = pixelAt (c .kind) (c .order) (4 ^ c .order - 1) in
-      let in-bed = pixelAt-lt (c .kind) (c .order) (4 ^ c .order - 1) (omega arith) in
-      sym (finished-whole (omega (arith, a last (omega arith) (omega (arith, in-bed)), placeOf-pixelAt (c .kind) (c .order) (4 ^ c .order - 1) (omega arith)))))
+  finished-all few = (
+    λ e z l h. omega (arith, finished-passed e, placeOf-lt (c .kind) (c .order) z (omega arith)),
+    λ a.
+        let pos = area-pos (c .order) in
+        let last = pixelAt (c .kind) (c .order) (4 ^ c .order - 1) in
+        let in-bed = pixelAt-lt (c .kind) (c .order) (4 ^ c .order - 1) (omega arith) in
+        sym (finished-whole (sym (test-true (test-eqb (c .pixels) (4 ^ c .order)) (omega (arith, a last (omega arith) (omega (arith, in-bed)), placeOf-pixelAt (c .kind) (c .order) (4 ^ c .order - 1) (omega arith)))))),
+  )
 
   -- no tile covers an unscanned pixel, where each is wholly scanned
   tiles-clear : (ts : List Tile) → ((t : Tile) → t ∈ ts → AllScanned (c .kind) (c .order) (c .pixels) (t .corner) (t .size)) → coversUnscanned c ts ≡ false

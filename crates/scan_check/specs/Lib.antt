@@ -1,4 +1,4 @@
--- The checks that a call on a scan begins with.
+-- The checks of a scan: those that a call on it begins with, and that what it asks for is scanned.
 pub mod Opening
 pub mod Scanned
 pub mod Opened

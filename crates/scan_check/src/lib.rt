@@ -2,6 +2,7 @@
 // call asks for is scanned, a function for each thing asked.
 ghost use mathlib.Core.Path.{_≡_};
 ghost use Prim.Native.Nat.{_^_, _<_, _≤_};
+ghost use lib.Dec.{eqb};
 ghost use lib.ListN.{length};
 ghost use Rattle.tile.specs.Tile.{tileOf, highestOrder};
 ghost use Rattle.tile.specs.Slots.{tilesIn};
@@ -81,11 +82,22 @@ pub fn open_check(scan: bed::Scan, slots: &[u32]) -> u32
     refusal::ACCEPTED
 }
 
+// Whether every pixel is scanned: then what is asked need not be looked at.
+fn whole(scan: bed::Scan) -> bool
+    requires { ⌜ scan .order ≤ highestOrder ⌝ }
+    ensures { λ r. ⌜ r ≡ eqb (scan .pixels) (4 ^ scan .order) ⌝ }
+{
+    scan.pixels == tile::area(scan.order)
+}
+
 // 52: the pixel asked, by its Morton number, is scanned.
 pub fn pixel(scan: bed::Scan, z: u32) -> u32
     requires { ⌜ (scan .order ≤ highestOrder) × (z < 4 ^ scan .order) ⌝ }
     ensures { λ r. ⌜ r ≡ scannedCheck scan z ⌝ }
 {
+    if whole(scan) {
+        return refusal::ACCEPTED;
+    }
     let kind = scan.kind;
     let place = place(kind, scan.order, z);
     if scan.pixels <= place {
@@ -100,6 +112,9 @@ pub fn block(scan: bed::Scan, corner: u32, size: u32) -> u32
         × Aligned size corner ⌝ }
     ensures { λ r. ⌜ r ≡ blockScannedCheck scan corner size ⌝ }
 {
+    if whole(scan) {
+        return refusal::ACCEPTED;
+    }
     let kind = scan.kind;
     if unscanned_in(kind, scan.order, scan.pixels, corner, size) {
         return refusal::UNSCANNED;
@@ -112,7 +127,7 @@ pub fn finished(scan: bed::Scan) -> u32
     requires { ⌜ scan .order ≤ highestOrder ⌝ }
     ensures { λ r. ⌜ r ≡ finishedCheck scan ⌝ }
 {
-    if scan.pixels == tile::area(scan.order) {
+    if whole(scan) {
         return refusal::ACCEPTED;
     }
     refusal::UNSCANNED

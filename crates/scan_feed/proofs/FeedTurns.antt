@@ -22,7 +22,7 @@ use Rattle.bed.specs.declared.Kind.the-variants.{Morton}
 use Rattle.bed.specs.declared.Scan.{Scan}
 use Rattle.bed.specs.Places.{placeOf}
 use Rattle.bed.specs.Bed as bed
-use Rattle.bed.specs.Bed.{shownBed}
+use Rattle.bed.specs.Shown.{shownBed}
 use Rattle.scan_gap.specs.Gap.{held, Fits, Low}
 use Rattle.scan_gap.proofs.Parts.{held-front}
 use Rattle.scan_check.specs.Opened.{Opened}

@@ -1,4 +1,4 @@
--- The place of z in the list: the tile ahead of it covers z, or else stops where the free stretch starts.
+-- The place of z in the list: the tile ahead of it covers z, or else stops where the stretch of nobody's starts.
 use mathlib.Core.Path.{_∙_, ap}
 use Prim.Native.Nat.{ℕ, _^_, _≤_, _<_}
 use native.Mathlib.Omega.{arith}

@@ -1,20 +1,25 @@
--- By the pixel's place.
-use mathlib.Core.Path.{_∙_}
+-- Every pixel, or by this one's place.
+use mathlib.Core.Path.{_∙_, sym}
 use native.Mathlib.Omega.{arith}
 use borrow.Author.Needs.{needs}
-use Rattle.scan_check.proofs.ScannedLaws.{pixel-unscanned, pixel-scanned}
+use Rattle.scan_check.proofs.ScannedLaws.{whole-pixel, pixel-unscanned, pixel-scanned}
 use Rattle.scan_check.proofs.pixel.Statement.{statement}
 use Rattle.scan_check.proofs.pixel.Tie as tie
 
 returns : tie.Need-returns
 returns c =
-    let a = c .before .before .before .args in
-    pixel-unscanned (a .scan) (a .z) (omega (arith, c .before .before .place .ensures, c .if1 .taken))
+    let s = c .before .before in
+    whole-pixel (s .args .scan) (sym (c .if1 .taken) ∙ c .before .whole .ensures) (s .args .z) (s .pre .1)
 
 returns-2 : tie.Need-returns-2
 returns-2 c =
-    let a = c .before .before .before .args in
-    pixel-scanned (a .scan) (a .z) (omega (arith, c .before .before .place .ensures, c .if1 .left))
+    let a = c .before .before .before .before .before .args in
+    pixel-unscanned (a .scan) (a .z) (omega (arith, c .before .before .place .ensures, c .if2 .taken))
+
+returns-3 : tie.Need-returns-3
+returns-3 c =
+    let a = c .before .before .before .before .before .args in
+    pixel-scanned (a .scan) (a .z) (omega (arith, c .before .before .place .ensures, c .if2 .left))
 
 pub pixel-spec : {M : Type 1} → statement M
-pixel-spec = tie.close (tie.spec (λ c κs. search needs) returns returns-2)
+pixel-spec = tie.close (tie.spec (λ c κs. search needs) returns (λ c κs. search needs) returns-2 returns-3)
