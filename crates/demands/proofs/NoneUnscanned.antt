@@ -4,13 +4,12 @@
 --     step-clear       any call on such a bed; begin-clear, the call that begins a list
 --     list-clear       a list of calls
 --     left-opening     what is kept of such a bed passes the opening checks
-use mathlib.Core.Path.{_≡_, refl, ap, sym, _∙_}
+use mathlib.Core.Path.{_≡_, refl, ap, _∙_}
 use mathlib.Core.Bool.{false}
 use mathlib.Core.List.{List, [], _∷_, List·Memᴰ, List·Memᴰ·not-nil, List·Memᴰ·cases-cons}
 use mathlib.Core.Logic.{inl, inr}
 use Prim.Native.Nat.{ℕ, zero, suc, _+_, _^_, _≤_, _<_}
 use native.Mathlib.Nat.{le-refl}
-use native.Mathlib.Decide.{decLt}
 use native.Mathlib.Omega.{arith}
 use lib.Dec.{leb}
 use Rattle.basics.specs.Choice.{if}
@@ -31,7 +30,7 @@ use Rattle.mapfile_entries.specs.RosterCheck.{rosterCheck}
 use Rattle.mapfile_read.specs.Reader.{tilesCheck, fileCheck, fileOrder, readBed}
 use Rattle.scan_check.specs.Opening.{opening}
 use Rattle.demands.specs.Calls.{Call, fresh, feed, claim, read, Answer, State, PlainStep, plainly, plainStep, plainFed, claimedBed, plainAnswers, plainLeft, Begins}
-use Rattle.demands.proofs.Kept.{keptBy, Kept}
+use Rattle.demands.proofs.Kept.{Kept}
 use Rattle.demands.proofs.UnscannedAlike.{blank-none}
 use Rattle.demands.proofs.CallSteps.{kept-opening}
 

@@ -7,7 +7,7 @@
 --     lookupOf-number, lookupOf-block     its number is that of the checks; past them it names the block
 use mathlib.Core.Path.{_≡_, refl, sym, _∙_}
 use mathlib.Core.List.{List}
-use Prim.Native.Nat.{ℕ, _^_, _≤_, _<_}
+use Prim.Native.Nat.{ℕ, _^_, _<_}
 use Rattle.refusal.specs.Refusal.{accepted}
 use Rattle.refusal.proofs.CheckLaws.{else-on, else-inv, unless-on, unless-off, unless-number}
 use Rattle.morton.specs.Morton.{morton, sideBits}

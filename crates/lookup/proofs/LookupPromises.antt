@@ -33,7 +33,6 @@ use Rattle.bed.specs.Shown.{shownBed}
 use Rattle.bed.proofs.ScannedBlocks.{place-upto}
 use Rattle.checks.proofs.AskedLaws.{block-passed}
 use Rattle.scan_check.specs.Opening.{opening}
-use Rattle.scan_check.specs.Opened.{Opened}
 use Rattle.scan_check.proofs.ScannedLaws.{pixel-unscanned, pixel-scanned}
 use Rattle.scan_check.proofs.Opening.{opened-opening}
 use Rattle.lookup.specs.declared.Found.{Found}
@@ -41,7 +40,7 @@ use Rattle.lookup.specs.Block.{blockAt, WhollyScanned, Names}
 use Rattle.lookup.specs.Lookup.{lookupCheck, foundOf, lookupOf}
 use Rattle.lookup.specs.Promises.{blockOf, LookupNames, LookupBed, LookupTile, LookupAlike, LookupWhole, LookupLast}
 use Rattle.lookup.proofs.BlockLaws.{names-same, names-moves, names-cong, blockAt-tile, blockAt-account}
-use Rattle.lookup.proofs.LookupLaws.{Point, lookupCheck-passed, lookupCheck-last, point-names, lookupOf-number, lookupOf-block}
+use Rattle.lookup.proofs.LookupLaws.{lookupCheck-passed, lookupCheck-last, point-names, lookupOf-number, lookupOf-block}
 
 pub lookup-names : LookupNames
 unfolding LookupNames

@@ -3,7 +3,7 @@
 --     covered-rows      the pixels that an account's tiles cover are its bytes in the raster of a valid list
 --     good-tallies      entries are the roster of a valid list exactly if they tally with that raster
 --     account-totals    all that is promised of totals
-use mathlib.Core.Path.{_≡_, refl, ap, sym, _∙_}
+use mathlib.Core.Path.{_≡_, ap, sym, _∙_}
 use mathlib.Core.Bool.{true}
 use mathlib.Core.List.{List, _++_, map, List·Memᴰ}
 use mathlib.Core.Logic.{_↔_}

@@ -8,25 +8,21 @@
 use mathlib.Core.Path.{_≡_, _∙_, refl, ap}
 use mathlib.Core.Bool.{Bool, true, false, _||_}
 use mathlib.Core.List.{List, [], _∷_}
-use Prim.Native.Nat.{ℕ, suc, _+_, _-_, _*_, _%_, _^_, _≤_, _<_}
+use Prim.Native.Nat.{ℕ, _+_, _*_, _%_, _^_, _≤_, _<_}
 use native.Mathlib.Numerals.{add-one}
-use native.Mathlib.Decide.{decLt}
 use native.Mathlib.Omega.{arith}
-use lib.Dec.{leb}
 use lib.ListN.{length, take, drop, getD, drop-of-length-le}
 use lib.Seq.{drop-cons, getD-take, length-take-le}
-use Rattle.basics.proofs.Tests.{Test, test-leb, test-not, test-alike, told-false}
-use Rattle.basics.proofs.ChoiceLaws.{Some, test-some}
+use Rattle.basics.proofs.Tests.{told-false}
 use Rattle.morton.specs.Morton.{column, row, sideBits}
 use Rattle.morton.proofs.MortonLaws.{column-wide, row-wide}
-use Rattle.tile.specs.Tile.{Tile, stop, tileOf, highestOrder}
+use Rattle.tile.specs.Tile.{Tile, tileOf, highestOrder}
 use Rattle.tile.specs.Slots.{tiles, tilesIn}
 use Rattle.tile.proofs.SlotTiles.{tilesIn-in}
-use Rattle.quadtree.specs.Raster.{Aligned, accountAt, Quadrant}
+use Rattle.quadtree.specs.Raster.{accountAt, Quadrant}
 use Rattle.quadtree.specs.Valid.{Valid}
-use Rattle.quadtree.proofs.Alignment.{area-pos, area-mono}
+use Rattle.quadtree.proofs.Alignment.{area-mono}
 use Rattle.quadtree.proofs.Shown.{accountAt-rest}
-use Rattle.quadtree.proofs.Chains.{quadrant-stop}
 use Rattle.quadtree.proofs.ValidLaws.{valid-quadrant}
 use Rattle.bed.specs.declared.Kind.{Kind}
 use Rattle.bed.specs.declared.Kind.the-variants.{Rows, Morton}

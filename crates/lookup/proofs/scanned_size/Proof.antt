@@ -1,6 +1,6 @@
 -- The loop keeps that the block of the next size, up to the first one, is not wholly scanned; the pixel itself is.
 use mathlib.Core.Path.{_≡_, _∙_, sym}
-use Prim.Native.Nat.{ℕ, suc, _-_, _≤_, _<_}
+use Prim.Native.Nat.{suc, _-_, _≤_, _<_}
 use native.Mathlib.Omega.{arith}
 use borrow.Author.Needs.{needs}
 use Rattle.quadtree.proofs.Alignment.{corner-aligned, corner-has}

@@ -1,5 +1,4 @@
 -- The tile is a block of the bed.
-use mathlib.Core.Path.{_∙_}
 use borrow.Author.Needs.{needs}
 use Rattle.scan_check.proofs.covers.Statement.{statement}
 use Rattle.scan_check.proofs.covers.Tie as tie
