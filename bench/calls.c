@@ -50,6 +50,10 @@ static void claims(struct bench *b, size_t m, uint32_t corner)
          left = kb_claim(KB_ROWS, order, scanned, left, slots, m, corner, 2, 0).tiles,
          straight, left = straight_claim(KB_ROWS, order, scanned, left, slots, m, corner, 2, 9).tiles;
          left = straight_claim(KB_ROWS, order, scanned, left, slots, m, corner, 2, 0).tiles);
+    if (left != tiles) { /* after a refusal, whose count is 0, no claim leads back to this list */
+        fprintf(stderr, "bench: a claim was refused\n");
+        exit(1);
+    }
     cell(&ours, &straight, 2 * tiles);
 }
 

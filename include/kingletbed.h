@@ -257,7 +257,7 @@ KB_MUST_USE kb_rights_answer kb_rights(uint32_t kind, uint32_t order, uint32_t p
                KB_SLOTS_EXCEEDED
      answers   the new tile count. The old one no longer goes with these slots: it may cut tiles off the list, whose
                ground then reads as free. The record goes on with the new tile count and the same pixels, so that an
-               unfinished scan can be fed on.
+               unfinished scan is fed on where it was, in the slots that are left.
      storage   accepted, the slots hold the list of the changed bed, and 0 from its end on; refused, they are as they
                were */
 KB_MUST_USE kb_claim_answer kb_claim(uint32_t kind, uint32_t order, uint32_t pixels, size_t tiles,
@@ -407,7 +407,7 @@ KB_MUST_USE static inline kb_feed_answer kb_scan_feed(kb_scan *scan, const uint8
     return fed;
 }
 
-/* Every account above 63 is KB_ACCOUNT_TOO_LARGE, 256 too. The pixels scanned stay the same: the scan can be fed on. */
+/* Every account above 63 is KB_ACCOUNT_TOO_LARGE, 256 too. The pixels scanned stay the same: a scan is fed on. */
 KB_MUST_USE static inline uint32_t kb_scan_claim(kb_scan *scan, uint64_t corner, uint64_t size, uint64_t account)
 {
     kb_claim_answer claimed = kb_claim(scan->kind, scan->order, scan->pixels, scan->tiles,
@@ -427,6 +427,7 @@ KB_MUST_USE static inline kb_preview_answer kb_scan_preview(const kb_scan *scan,
                       kb_number_word(corner), kb_number_word(size), kb_account_byte(account));
 }
 
+/* The list alone: the opening checks of a scan's record are those of kb_scan_feed, also of no accounts. */
 KB_MUST_USE static inline uint32_t kb_scan_check(const kb_scan *scan)
 {
     return kb_check(scan->order, scan->tiles, scan->slots, scan->slots_length);

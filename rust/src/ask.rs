@@ -62,7 +62,7 @@ impl<S: AsRef<[u32]>> Bed<S> {
     /// ```
     #[must_use]
     pub fn scanned(&self) -> u32 {
-        self.pixels
+        self.scanned
     }
 
     /// Whether every pixel is scanned.
@@ -78,7 +78,7 @@ impl<S: AsRef<[u32]>> Bed<S> {
     /// ```
     #[must_use]
     pub fn is_scanned(&self) -> bool {
-        self.pixels == self.pixels()
+        self.scanned == self.pixels()
     }
 
     /// All the slots: the list, and what stands behind it.
@@ -146,7 +146,7 @@ impl<S: AsRef<[u32]>> Bed<S> {
     /// ```
     pub fn lookup(&self, at: Pixel) -> Result<Found, Refusal> {
         let (kind, slots) = (self.kind.number(), self.slots());
-        let answer = raw::lookup(kind, self.order, self.pixels, self.tiles, slots, at.column, at.row);
+        let answer = raw::lookup(kind, self.order, self.scanned, self.tiles, slots, at.column, at.row);
         Refusal::outcome(answer.number)?;
         let block = Block { corner: answer.corner, size: answer.size };
         Ok(Found { account: Account(answer.account), block })
@@ -166,7 +166,7 @@ impl<S: AsRef<[u32]>> Bed<S> {
     /// ```
     pub fn rights(&self, at: Pixel, asking: Account) -> Result<bool, Refusal> {
         let (kind, slots) = (self.kind.number(), self.slots());
-        let answer = raw::rights(kind, self.order, self.pixels, self.tiles, slots, at.column, at.row, asking.0);
+        let answer = raw::rights(kind, self.order, self.scanned, self.tiles, slots, at.column, at.row, asking.0);
         Refusal::outcome(answer.number)?;
         Ok(answer.yes != 0)
     }
@@ -188,7 +188,7 @@ impl<S: AsRef<[u32]>> Bed<S> {
     /// ```
     pub fn preview(&self, block: Block, account: Account) -> Result<usize, Refusal> {
         let (kind, slots, Block { corner, size }) = (self.kind.number(), self.slots(), block);
-        let answer = raw::preview(kind, self.order, self.pixels, self.tiles, slots, corner, size, account.0);
+        let answer = raw::preview(kind, self.order, self.scanned, self.tiles, slots, corner, size, account.0);
         Refusal::outcome(answer.number)?;
         Ok(answer.tiles)
     }
@@ -196,7 +196,7 @@ impl<S: AsRef<[u32]>> Bed<S> {
     /// The part of the list whose tiles lie wholly inside a block: of the slots themselves, not a copy.
     ///
     /// To draw a block take [`shown`](Bed::shown): the part of a block that lies under a larger tile is empty, though
-    /// every pixel of it is somebody's.
+    /// every pixel of it is somebody's, and so is that of a block which the scan has not reached.
     ///
     /// ```
     /// use kingletbed::{Account, Bed, Block, Pixel};
@@ -335,7 +335,7 @@ impl<S: AsRef<[u32]>> Bed<S> {
     /// ```
     #[must_use = "the file is as many bytes as the answer says"]
     pub fn write(&self, file: &mut [u8]) -> Result<usize, Refusal> {
-        let answer = raw::write(self.kind.number(), self.order, self.pixels, self.tiles, self.slots(), file);
+        let answer = raw::write(self.kind.number(), self.order, self.scanned, self.tiles, self.slots(), file);
         Refusal::outcome(answer.number)?;
         Ok(answer.length)
     }

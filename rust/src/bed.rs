@@ -86,7 +86,7 @@ pub struct Bed<S> {
     pub(crate) kind: Kind,
     pub(crate) order: u32,
     /// The pixels scanned, at most 4^order; every tile lies on them.
-    pub(crate) pixels: u32,
+    pub(crate) scanned: u32,
     /// The tile count. That of a list which the library made or checked, so at most 4^order.
     pub(crate) tiles: usize,
     pub(crate) slots: S,
@@ -110,7 +110,7 @@ impl<S: AsRef<[u32]> + AsMut<[u32]>> Bed<S> {
     pub fn fresh(kind: Kind, order: u32, mut slots: S) -> Result<Bed<S>, Refusal> {
         let answer = raw::fresh(kind.number(), order, slots.as_mut());
         Refusal::outcome(answer.number)?;
-        Ok(Bed { kind, order: answer.order, pixels: answer.pixels, tiles: answer.tiles, slots })
+        Ok(Bed { kind, order: answer.order, scanned: answer.pixels, tiles: answer.tiles, slots })
     }
 
     /// Reads a file's list to the slots, and sets those behind it to 0. The bed is by rows, with every pixel scanned.
@@ -130,7 +130,7 @@ impl<S: AsRef<[u32]> + AsMut<[u32]>> Bed<S> {
     pub fn read(file: &[u8], mut slots: S) -> Result<Bed<S>, Refusal> {
         let answer = raw::read(file, slots.as_mut());
         Refusal::outcome(answer.number)?;
-        Ok(Bed { kind: Kind::Rows, order: answer.order, pixels: pixels_of(answer.order), tiles: answer.tiles, slots })
+        Ok(Bed { kind: Kind::Rows, order: answer.order, scanned: pixels_of(answer.order), tiles: answer.tiles, slots })
     }
 
     /// Makes a third bed of two of one order: the first's pixels where the second is somebody's, or where it is
@@ -165,12 +165,12 @@ impl<S: AsRef<[u32]> + AsMut<[u32]>> Bed<S> {
         second: &Bed<B>,
         mut slots: S,
     ) -> Result<Bed<S>, Refusal> {
-        let Bed { kind, order, pixels, tiles, .. } = *first;
+        let Bed { kind, order, scanned, tiles, .. } = *first;
         let (words1, words2) = (first.slots(), second.slots());
         let (choice, out) = (choice.number(), slots.as_mut());
         let answer = raw::combine(choice, order, tiles, words1, second.order, second.tiles, words2, out);
         Refusal::outcome(answer.number)?;
-        Ok(Bed { kind, order, pixels, tiles: answer.tiles, slots })
+        Ok(Bed { kind, order, scanned, tiles: answer.tiles, slots })
     }
 
     /// Hands over the accounts of the next pixels, any number of them. The slots then hold the list of all pixels so
@@ -186,17 +186,17 @@ impl<S: AsRef<[u32]> + AsMut<[u32]>> Bed<S> {
     /// # Ok::<(), kingletbed::Refusal>(())
     /// ```
     pub fn feed(&mut self, accounts: &[u8]) -> Result<(), Stopped> {
-        let answer = raw::feed(self.kind.number(), self.order, self.pixels, self.tiles, self.slots.as_mut(), accounts);
+        let answer = raw::feed(self.kind.number(), self.order, self.scanned, self.tiles, self.slots.as_mut(), accounts);
         // The record to go on with, whatever stopped the feed: that of the pixels taken.
-        self.pixels = answer.pixels;
+        self.scanned = answer.pixels;
         self.tiles = answer.tiles;
         Refusal::outcome(answer.number).map_err(|refusal| Stopped { refusal, taken: answer.taken })
     }
 
     /// Gives every pixel of a block to an account; [`Account::NOBODY`] releases them. The slots then hold the new list,
-    /// and 0 behind it. A block with a pixel that is not scanned yet is refused; a claim among the pixels scanned does
-    /// not stop the scan, which goes on where it was. [`preview`](Bed::preview) tells beforehand how many tiles a claim
-    /// leaves.
+    /// and 0 behind it. A block with a pixel that is not scanned yet is refused; after a claim among the pixels scanned
+    /// the scan goes on where it was, in the slots that are left. [`preview`](Bed::preview) tells beforehand how many
+    /// tiles a claim leaves.
     ///
     /// ```
     /// use kingletbed::{Account, Bed, Block, Pixel};
@@ -208,8 +208,8 @@ impl<S: AsRef<[u32]> + AsMut<[u32]>> Bed<S> {
     /// ```
     pub fn claim(&mut self, block: Block, account: Account) -> Result<(), Refusal> {
         let (kind, slots) = (self.kind.number(), self.slots.as_mut());
-        let (order, pixels, tiles) = (self.order, self.pixels, self.tiles);
-        let answer = raw::claim(kind, order, pixels, tiles, slots, block.corner, block.size, account.0);
+        let (order, scanned, tiles) = (self.order, self.scanned, self.tiles);
+        let answer = raw::claim(kind, order, scanned, tiles, slots, block.corner, block.size, account.0);
         Refusal::outcome(answer.number)?;
         self.tiles = answer.tiles;
         Ok(())
@@ -247,7 +247,7 @@ impl<S: AsRef<[u32]>> Bed<S> {
     /// ```
     pub fn from_slots(order: u32, tiles: usize, slots: S) -> Result<Bed<S>, Refusal> {
         Refusal::outcome(raw::check(order, tiles, slots.as_ref()))?;
-        Ok(Bed { kind: Kind::Rows, order, pixels: pixels_of(order), tiles, slots })
+        Ok(Bed { kind: Kind::Rows, order, scanned: pixels_of(order), tiles, slots })
     }
 
     /// The bed of a scan, finished or not, made again of its kind, its order, the number of pixels scanned, and the
@@ -265,13 +265,13 @@ impl<S: AsRef<[u32]>> Bed<S> {
     /// assert_eq!((bed.scanned(), bed.words()), (8, &[69, 7177][..]));
     /// # Ok::<(), kingletbed::Refusal>(())
     /// ```
-    pub fn from_scan(kind: Kind, order: u32, pixels: u32, tiles: usize, slots: S) -> Result<Bed<S>, Refusal> {
+    pub fn from_scan(kind: Kind, order: u32, scanned: u32, tiles: usize, slots: S) -> Result<Bed<S>, Refusal> {
         // A lookup off every bed: the checks of a scan, and where they pass the refusal of the point.
-        let answer = raw::lookup(kind.number(), order, pixels, tiles, slots.as_ref(), u32::MAX, u32::MAX);
+        let answer = raw::lookup(kind.number(), order, scanned, tiles, slots.as_ref(), u32::MAX, u32::MAX);
         if answer.number != Refusal::PointOutside.number() {
             Refusal::outcome(answer.number)?;
         }
-        Ok(Bed { kind, order, pixels, tiles, slots })
+        Ok(Bed { kind, order, scanned, tiles, slots })
     }
 
     /// The same bed with its slots by borrow, only to be asked: for code that takes beds whatever they are kept in.
@@ -286,7 +286,7 @@ impl<S: AsRef<[u32]>> Bed<S> {
     /// # Ok::<(), kingletbed::Refusal>(())
     /// ```
     pub fn view(&self) -> Bed<&[u32]> {
-        Bed { kind: self.kind, order: self.order, pixels: self.pixels, tiles: self.tiles, slots: self.slots.as_ref() }
+        Bed { kind: self.kind, order: self.order, scanned: self.scanned, tiles: self.tiles, slots: self.slots.as_ref() }
     }
 }
 
@@ -345,7 +345,7 @@ impl<S: AsRef<[u32]>> fmt::Debug for Bed<S> {
         f.debug_struct("Bed")
             .field("kind", &self.kind)
             .field("order", &self.order)
-            .field("scanned", &self.pixels)
+            .field("scanned", &self.scanned)
             .field("tiles", &self.tiles())
             .finish()
     }

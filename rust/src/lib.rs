@@ -5,7 +5,8 @@
 //! blocks of one account, by rising Morton number. It is filled from account bytes, by rows or in Morton order, read
 //! from a file, made of slots that have a list already, or combined of two beds: the first's pixels inside the second's
 //! held ground, or outside it. A lookup tells whose a pixel is, and the largest block around it that is all of that
-//! account. Ground that the scan has not reached yet is not free: what is asked or claimed there is refused.
+//! account and wholly scanned. Ground that the scan has not reached yet is not free: what is asked or claimed there is
+//! refused.
 //!
 //! ```
 //! use kingletbed::{Account, Bed, Block, Kind, Pixel};
@@ -28,7 +29,7 @@
 //! behind this wrapper is proved to do so, for every list, every input and every sequence of calls; Morton numbers,
 //! blocks, extents and the fields of a word are the library's too. The wrapper gives the numbers types and ties a list
 //! to its slots. It needs no heap and no `std`, and does not panic. Each call checks the list it finds, one pass over
-//! its tiles. The calls as C has them are in [`raw`].
+//! its tiles, and one more on an unfinished scan. The calls as C has them are in [`raw`].
 
 #![no_std]
 #![deny(unsafe_code, missing_docs)]

@@ -3,7 +3,8 @@
 //! [`Bed`](crate::Bed).
 //!
 //! `kind, order, pixels, tiles` are the record of a scan. A fresh scan and a feed answer it; of a map that was read it
-//! is kind 0, the order and tile count answered, and 4^order pixels. A claim changes its tile count alone.
+//! is kind 0, the order and tile count answered, and 4^order pixels. A claim changes its tile count alone, and a third
+//! map has the first one's with its own tile count.
 //!
 //! No call asks anything of its caller: the library answers every input, and the slices see to the memory. What nothing
 //! here protects from is a record that belongs to other slots, or to the same slots at another time: earlier, or after
@@ -64,7 +65,8 @@ extern "C" {
 
 // Why the calls are safe: the library is proved to answer every number and whatever the lent storage holds, and asks
 // two things, that a pointer is good for the length behind it and that storage it writes overlaps nothing else.
-// Pointers and lengths here are those of slices, which see to both.
+// Pointers and lengths here are those of slices, which see to both. The archive linked must be of this version: one of
+// another may have the same names and other arguments.
 
 /// `kb_check`. List checking: the refusal number of a map, 0 if it is one.
 ///

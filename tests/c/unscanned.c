@@ -234,10 +234,14 @@ void test_unscanned_edges(void)
         CHECK(kb_lookup(kind, 10, 0, 0, NULL, 0, 0, 0).number == KB_UNSCANNED);
         CHECK(kb_lookup(kind, 10, 1, 0, NULL, 0, 0, 0).number == KB_ACCEPTED);
         CHECK(kb_lookup(kind, 10, all - 1, 0, NULL, 0, 1023, 1023).number == KB_UNSCANNED);
-        CHECK(kb_lookup(kind, 10, all - 1, 0, NULL, 0, 1022, 1023).size == 0);
+        kb_lookup_answer beside = kb_lookup(kind, 10, all - 1, 0, NULL, 0, 1022, 1023);
+        CHECK(beside.number == KB_ACCEPTED && beside.size == 0 && beside.corner == all - 2);
         CHECK(kb_lookup(kind, 10, all - 1, 0, NULL, 0, 511, 1023).size == 9);
         CHECK(kb_lookup(kind, 10, all, 0, NULL, 0, 1023, 1023).size == 10);
         CHECK(kb_lookup(kind, 10, all + 1, 0, NULL, 0, 0, 0).number == KB_SCANNED_TOO_LARGE);
+        /* Four pixels of order 2: the first row, or the north-western quarter. */
+        CHECK(kb_lookup(kind, 2, 4, 0, NULL, 0, 3, 0).number == (kind == KB_ROWS ? KB_ACCEPTED : KB_UNSCANNED));
+        CHECK(kb_lookup(kind, 2, 4, 0, NULL, 0, 0, 1).number == (kind == KB_ROWS ? KB_UNSCANNED : KB_ACCEPTED));
         CHECK(kb_rights(kind, 10, all - 1, 0, NULL, 0, 1023, 1023, 1).number == KB_UNSCANNED);
         CHECK(kb_rights(kind, 10, all, 0, NULL, 0, 1023, 1023, 1).yes == 1);
         CHECK(kb_claim(kind, 10, all - 1, 0, NULL, 0, 0, 10, 0).number == KB_UNSCANNED);

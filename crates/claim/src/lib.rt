@@ -34,7 +34,7 @@ fn plan_check(scan: Scan, slots: &[u32], corner: u32, size: u32, account: u8) ->
     if block != refusal::ACCEPTED {
         return block;
     }
-    let scanned = scan_check::block(scan, corner, size);
+    let scanned = scan_check::block_scanned(scan, corner, size);
     if scanned != refusal::ACCEPTED {
         return scanned;
     }

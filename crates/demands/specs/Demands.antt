@@ -1,8 +1,7 @@
 -- The demands as statements. Demand 1 is the contracts of the offered calls.
 --     Left m s b                the state s that calls left in record and m slots, all of it, against the plain bed b
 --     Demand2 k n m pixels count s   the state s that feeds of pixels left in m slots is the linear quadtree of the
---                                    pixels, decodes to
---                               them, and counts them, as the feeds' answers do
+--                               pixels, decodes to them, and counts them, as the feeds' answers do
 --     Demand3 ..                two lists of calls, each taken whole
 --     NoneUnscanned             a corollary: in such a list 22 is met by no call
 use mathlib.Core.Path.{_≡_}

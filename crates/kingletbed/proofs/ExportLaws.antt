@@ -7,7 +7,7 @@ use Prim.Native.Nat.{ℕ}
 use Rattle.refusal.specs.Checks.{After}
 use Rattle.bed.specs.declared.Kind.{Kind}
 use Rattle.bed.specs.declared.Kind.the-variants.{Rows, Morton}
-use Rattle.bed.specs.Places.{scanOf}
+use Rattle.bed.specs.declared.Scan.{Scan}
 use Rattle.scan.specs.declared.Fresh.{Fresh}
 use Rattle.scan.specs.declared.Fed.{Fed}
 use Rattle.scan.specs.FreshScan.{freshOf}
@@ -31,9 +31,9 @@ fresh-export x n s t k r q ek e eq =
     ap {B = After FreshAnswer} (λ y. record { answer = record { number = r .number; kind = y; order = r .scan .order; pixels = r .scan .pixels; tiles = r .scan .tiles }; storage = t }) eq
     ∙ ap freshNumbers (e ∙ ap (λ (y : Kind). freshOf y n s) ek)
 
-pub feed-export : (x n p m : ℕ) (s t accounts : List ℕ) (k : Kind) (r : Fed) (q : ℕ) → k ≡ kindOf x → _≡_ {A = After Fed} (record { answer = r; storage = t }) (feedOf (scanOf k n p m) s accounts) → q ≡ kindNumber (r .scan .kind) →
-    _≡_ {A = After FeedAnswer} (record { answer = record { number = r .number; taken = r .taken; kind = q; order = r .scan .order; pixels = r .scan .pixels; tiles = r .scan .tiles }; storage = t }) (fedNumbers (feedOf (scanOf (kindOf x) n p m) s accounts))
+pub feed-export : (c d : Scan) (s t accounts : List ℕ) (r : Fed) (q : ℕ) → c ≡ d → _≡_ {A = After Fed} (record { answer = r; storage = t }) (feedOf c s accounts) → q ≡ kindNumber (r .scan .kind) →
+    _≡_ {A = After FeedAnswer} (record { answer = record { number = r .number; taken = r .taken; kind = q; order = r .scan .order; pixels = r .scan .pixels; tiles = r .scan .tiles }; storage = t }) (fedNumbers (feedOf d s accounts))
 unfolding fedNumbers
-feed-export x n p m s t accounts k r q ek e eq =
+feed-export c d s t accounts r q ec e eq =
     ap {B = After FeedAnswer} (λ y. record { answer = record { number = r .number; taken = r .taken; kind = y; order = r .scan .order; pixels = r .scan .pixels; tiles = r .scan .tiles }; storage = t }) eq
-    ∙ ap fedNumbers (e ∙ ap (λ (y : Kind). feedOf (scanOf y n p m) s accounts) ek)
+    ∙ ap fedNumbers (e ∙ ap (λ (y : Scan). feedOf y s accounts) ec)

@@ -181,13 +181,7 @@ pub extern "C" fn kb_feed(
     ensures { λ r. ⌜ Gives r (now (slots .exit)) (fedNumbers
         (feedOf (scanOf (kindOf kind) order pixels tiles) (now (slots .entry)) (now (accounts .entry)))) ⌝ }
 {
-    let kind = kind_of(kind);
-    let scan = Scan {
-        kind,
-        order,
-        pixels,
-        tiles,
-    };
+    let scan = scan_of(kind, order, pixels, tiles);
     let fed = scan::feed(scan, slots, accounts);
     let next = fed.scan;
     let next_kind = next.kind;

@@ -36,7 +36,7 @@ fn lookup_check(scan: Scan, slots: &[u32], column: u32, row: u32) -> u32
     if point != refusal::ACCEPTED {
         return point;
     }
-    scan_check::pixel(scan, morton::number(column, row))
+    scan_check::pixel_scanned(scan, morton::number(column, row))
 }
 
 // The answer that names a tile.
@@ -106,7 +106,7 @@ fn scanned_size(scan: Scan, size: u32, z: u32) -> u32
 {
     let mut k = size;
     while 0 < k {
-        if scan_check::block(scan, tile::corner_at(k, z), k) == refusal::ACCEPTED {
+        if scan_check::block_scanned(scan, tile::corner_at(k, z), k) == refusal::ACCEPTED {
             return k;
         }
         k -= 1;

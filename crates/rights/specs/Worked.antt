@@ -16,18 +16,18 @@ abbrev pub answered : ℕ → Bool → Right
 answered number answer = record { number = number; yes = answer }
 
 -- all of M, and its first row
-abbrev pub wholeM : Scan
-wholeM = scanOf Rows 2 16 4
+abbrev pub scanM : Scan
+scanM = scanOf Rows 2 16 4
 
 abbrev pub rowM : Scan
 rowM = scanOf Rows 2 4 0
 
 pub record RightsLines : Type 0 where
-  pub own : rightsOf wholeM slotsM 3 1 9 ≡ answered accepted true
-  pub students : rightsOf wholeM slotsM 3 1 12 ≡ answered accepted false
-  pub staff : rightsOf wholeM slotsM 3 1 3 ≡ answered accepted true
-  pub nobodys : rightsOf wholeM slotsM 2 0 12 ≡ answered accepted true
-  pub guest : rightsOf wholeM slotsM 2 0 50 ≡ answered accepted false
+  pub own : rightsOf scanM slotsM 3 1 9 ≡ answered accepted true
+  pub students : rightsOf scanM slotsM 3 1 12 ≡ answered accepted false
+  pub staff : rightsOf scanM slotsM 3 1 3 ≡ answered accepted true
+  pub nobodys : rightsOf scanM slotsM 2 0 12 ≡ answered accepted true
+  pub guest : rightsOf scanM slotsM 2 0 50 ≡ answered accepted false
   -- a student may place on nobody's pixel once it is scanned, and nobody before, staff neither
   pub row-nobodys : rightsOf rowM slotsM 3 0 12 ≡ answered accepted true
   pub row-unscanned : rightsOf rowM slotsM 0 1 12 ≡ answered unscanned false

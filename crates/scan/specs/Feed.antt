@@ -1,8 +1,7 @@
 -- Feed (document 01, "Scanning"), through the plain bed. Definitions only.
 --     feedOf c slots bytes    the offered call: refused by its opening checks it changes nothing; past them it answers
---                             what the feed of
---                             the plain bed answers, and leaves the linear quadtree of the bed that this leaves, with
--- the other slots 0
+--                             what the feed of the plain bed answers, and leaves the linear quadtree of the bed that
+--                             this leaves, with the other slots 0
 use mathlib.Core.List.{List}
 use Prim.Native.Nat.{ℕ}
 use lib.ListN.{length}

@@ -91,7 +91,7 @@ fn whole(scan: bed::Scan) -> bool
 }
 
 // 52: the pixel asked, by its Morton number, is scanned.
-pub fn pixel(scan: bed::Scan, z: u32) -> u32
+pub fn pixel_scanned(scan: bed::Scan, z: u32) -> u32
     requires { ⌜ (scan .order ≤ highestOrder) × (z < 4 ^ scan .order) ⌝ }
     ensures { λ r. ⌜ r ≡ scannedCheck scan z ⌝ }
 {
@@ -107,7 +107,7 @@ pub fn pixel(scan: bed::Scan, z: u32) -> u32
 }
 
 // 52: the block asked is wholly scanned.
-pub fn block(scan: bed::Scan, corner: u32, size: u32) -> u32
+pub fn block_scanned(scan: bed::Scan, corner: u32, size: u32) -> u32
     requires { ⌜ (scan .order ≤ highestOrder) × (size ≤ scan .order) × (corner < 4 ^ scan .order)
         × Aligned size corner ⌝ }
     ensures { λ r. ⌜ r ≡ blockScannedCheck scan corner size ⌝ }

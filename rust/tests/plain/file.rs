@@ -1,7 +1,7 @@
 //! The map file, item by item.
 
 use super::bed::painted;
-use super::list::Seen;
+use super::list::Passed;
 use super::Tile;
 
 /// The accounts of the pixels, each with its number of pixels, by rising account.
@@ -64,11 +64,11 @@ pub fn read(bytes: &[u8], m: usize) -> Result<(u32, Vec<Tile>), u32> {
     if count as usize > m {
         return Err(25);
     }
-    let mut seen = Seen::default();
+    let mut passed = Passed::default();
     let mut tiles = Vec::new();
     for _ in 0..count {
         let word = items.word()?;
-        match seen.next(order, word) {
+        match passed.next(order, word) {
             0 => tiles.push(Tile::of_word(word)),
             number => return Err(number),
         }

@@ -6,11 +6,11 @@ use super::{area, file, left, morton, Record, Tile};
 
 /// The tiles of a list whose words have passed their checks; their corners rise.
 #[derive(Default)]
-pub struct Seen {
+pub struct Passed {
     tiles: Vec<Tile>,
 }
 
-impl Seen {
+impl Passed {
     /// Checks the next word of a list of an order: 11 to 16, or 0.
     pub fn next(&mut self, order: u32, word: u32) -> u32 {
         let tile = Tile::of_word(word);
@@ -50,8 +50,8 @@ pub fn check(order: u32, tiles: usize, slots: &[u32]) -> u32 {
     if tiles > slots.len() {
         return 2;
     }
-    let mut seen = Seen::default();
-    slots[..tiles].iter().map(|&word| seen.next(order, word)).find(|&number| number != 0).unwrap_or(0)
+    let mut passed = Passed::default();
+    slots[..tiles].iter().map(|&word| passed.next(order, word)).find(|&number| number != 0).unwrap_or(0)
 }
 
 /// The tiles of a list that passes its checks.

@@ -27,8 +27,8 @@ returns-2 c =
     let check = c .before .before .before .open-check in
     rw (else-on _ _ (sym (check .ensures) ∙ c .before .before .if1 .left), sym (c .before .block .ensures)) (sym (else-off _ _ (c .if2 .taken)))
 
-block-requires-2 : tie.Need-block-requires-2
-block-requires-2 c κs =
+block-scanned-requires : tie.Need-block-scanned-requires
+block-scanned-requires c κs =
     let a = c .before .before .before .before .before .args in
     let p = block-passed (a .scan .order) (a .corner) (a .size) (sym (c .before .block .ensures) ∙ c .if2 .left) in
     (opened (c .before .before) .order, p .0, p .1 .0, p .1 .1)
@@ -41,7 +41,7 @@ returns-3 c =
     rw (
       else-on _ _ (sym (check .ensures) ∙ c .before .before .before .before .if1 .left),
       else-on _ _ (sym (block .ensures) ∙ c .before .before .if2 .left),
-      sym (c .before .block2 .ensures),
+      sym (c .before .block-scanned .ensures),
     ) (sym (else-off _ _ (c .if3 .taken)))
 
 returns-4 : tie.Need-returns-4
@@ -49,9 +49,9 @@ unfolding planCheck
 returns-4 c =
     let check = c .before .before .before .before .before .before .open-check in
     let block = c .before .before .before .before .block in
-    let scanned = c .before .before .block2 in
+    let scanned = c .before .before .block-scanned in
     c .given .ensures ∙ sym (else-on _ _ (sym (check .ensures) ∙ c .before .before .before .before .before .if1 .left) ∙
     else-on _ _ (sym (block .ensures) ∙ c .before .before .before .if2 .left) ∙ else-on _ _ (sym (scanned .ensures) ∙ c .before .if3 .left))
 
 pub plan-check-spec : {M : Type 1} → statement M
-plan-check-spec = tie.close (tie.spec (λ c κs. search needs) returns block-requires returns-2 block-requires-2 returns-3 (λ c κs. search needs) returns-4)
+plan-check-spec = tie.close (tie.spec (λ c κs. search needs) returns block-requires returns-2 block-scanned-requires returns-3 (λ c κs. search needs) returns-4)

@@ -38,8 +38,8 @@ number c =
     let p = point-passed (a .scan .order) (a .column) (a .row) (sym (c .before .before .point .ensures) ∙ c .before .if2 .left) in
     c .number .ensures ∙ morton-wide (a .scan .order) sideBits (a .column) (a .row) (opened (c .before .before .before) .order) (p .0) (p .1)
 
-pixel-requires : tie.Need-pixel-requires
-pixel-requires c κs =
+pixel-scanned-requires : tie.Need-pixel-scanned-requires
+pixel-scanned-requires c κs =
     let a = c .before .before .before .before .before .before .args in
     (opened (c .before .before .before) .order, rw (number c) (morton-lt (a .scan .order) (a .column) (a .row)))
 
@@ -48,8 +48,8 @@ unfolding lookupCheck
 returns-3 c =
     let check = c .before .before .before .before .before .open-check in
     let point = c .before .before .before .point in
-    rw (number (c .before)) at (c .pixel .ensures) ∙ sym (else-on _ _ (sym (check .ensures) ∙ c .before .before .before .before .if1 .left) ∙
+    rw (number (c .before)) at (c .pixel-scanned .ensures) ∙ sym (else-on _ _ (sym (check .ensures) ∙ c .before .before .before .before .if1 .left) ∙
     else-on _ _ (sym (point .ensures) ∙ c .before .before .if2 .left))
 
 pub lookup-check-spec : {M : Type 1} → statement M
-lookup-check-spec = tie.close (tie.spec (λ c κs. search needs) returns point-requires returns-2 (λ c κs. search needs) pixel-requires returns-3)
+lookup-check-spec = tie.close (tie.spec (λ c κs. search needs) returns point-requires returns-2 (λ c κs. search needs) pixel-scanned-requires returns-3)

@@ -22,8 +22,8 @@ loop-holds c = (omega arith, λ h. absurd (omega arith))
 corner-at-requires : tie.Need-corner-at-requires Inv-loop μ-loop
 corner-at-requires c κs = let p = c .before .before .pre in omega (arith, p .0, p .2, c .before .loop .inv .0)
 
-block-requires : tie.Need-block-requires Inv-loop μ-loop
-block-requires c κs =
+block-scanned-requires : tie.Need-block-scanned-requires Inv-loop μ-loop
+block-scanned-requires c κs =
     let p = c .before .before .before .pre in
     let z = c .before .before .before .args .z in
     let k = c .before .before .loop .k in
@@ -33,7 +33,7 @@ returns : tie.Need-returns Inv-loop μ-loop
 returns c =
     let a = c .before .before .before .before .before .args in
     let l = c .before .before .before .before .loop in
-    let e = rw (c .before .before .corner-at .ensures) at (sym (c .before .block .ensures) ∙ c .if1 .taken) in
+    let e = rw (c .before .before .corner-at .ensures) at (sym (c .before .block-scanned .ensures) ∙ c .if1 .taken) in
     record { low = l .inv .0; scanned = block-passed (a .scan) _ (l .k) e; top = l .inv .1 }
 
 loop-again : tie.Need-loop-again Inv-loop μ-loop
@@ -42,7 +42,7 @@ loop-again c =
     let l = c .before .before .before .before .loop in
     let k : suc (l .k - 1) ≡ l .k = omega arith in
     let none : Scanned (a .scan) (l .k) (a .z) → ⊥ = λ w. c .if1 .left
-    (c .before .block .ensures ∙ rw (c .before .before .corner-at .ensures) (block-all (a .scan) _ (l .k) w)) in
+    (c .before .block-scanned .ensures ∙ rw (c .before .before .corner-at .ensures) (block-all (a .scan) _ (l .k) w)) in
     (omega (arith, l .inv .0), λ h w. none (rw k at w))
 
 returns-2 : tie.Need-returns-2 Inv-loop μ-loop
@@ -54,4 +54,5 @@ returns-2 c =
 
 pub scanned-size-spec : {M : Type 1} → statement M
 scanned-size-spec =
-    tie.close (tie.spec Inv-loop μ-loop loop-holds corner-at-requires block-requires returns (λ c. search needs) (λ c. search needs) loop-again returns-2)
+    tie.close (tie.spec Inv-loop μ-loop loop-holds corner-at-requires block-scanned-requires returns (λ c. search needs) (λ c. search needs)
+    loop-again returns-2)

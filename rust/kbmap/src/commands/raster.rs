@@ -14,7 +14,7 @@ use kingletbed::{Account, Bed, Kind, Refusal};
 const PORTIONS: usize = 16;
 
 /// Makes a map file of a picture whose grey values are accounts. One that ends early is a scan that is not finished,
-/// which has no file: pixels that are not there are not nobody's.
+/// which has no file: pixels that are not there are not free.
 pub fn scan(image: &Source, out: &Target) -> Result<(), Failure> {
     apart(image, out)?;
     let picture = pgm::read(&image.read()?).map_err(|reason| Failure::refused(image.name(), reason))?;

@@ -2,8 +2,8 @@
 use mathlib.Core.Path.{_∙_, sym}
 use borrow.Author.Needs.{needs}
 use Rattle.scan_check.proofs.ScannedLaws.{whole-block, block-unscanned, block-scanned}
-use Rattle.scan_check.proofs.block.Statement.{statement}
-use Rattle.scan_check.proofs.block.Tie as tie
+use Rattle.scan_check.proofs.block_scanned.Statement.{statement}
+use Rattle.scan_check.proofs.block_scanned.Tie as tie
 
 returns : tie.Need-returns
 returns c =
@@ -20,5 +20,5 @@ returns-3 c =
     let a = c .before .before .before .before .args in
     block-scanned (a .scan) (a .corner) (a .size) (sym (c .if2 .left) ∙ c .before .unscanned-in .ensures)
 
-pub block-spec : {M : Type 1} → statement M
-block-spec = tie.close (tie.spec (λ c κs. search needs) returns (λ c κs. search needs) returns-2 returns-3)
+pub block-scanned-spec : {M : Type 1} → statement M
+block-scanned-spec = tie.close (tie.spec (λ c κs. search needs) returns (λ c κs. search needs) returns-2 returns-3)

@@ -3,8 +3,8 @@ use mathlib.Core.Path.{_∙_, sym}
 use native.Mathlib.Omega.{arith}
 use borrow.Author.Needs.{needs}
 use Rattle.scan_check.proofs.ScannedLaws.{whole-pixel, pixel-unscanned, pixel-scanned}
-use Rattle.scan_check.proofs.pixel.Statement.{statement}
-use Rattle.scan_check.proofs.pixel.Tie as tie
+use Rattle.scan_check.proofs.pixel_scanned.Statement.{statement}
+use Rattle.scan_check.proofs.pixel_scanned.Tie as tie
 
 returns : tie.Need-returns
 returns c =
@@ -21,5 +21,5 @@ returns-3 c =
     let a = c .before .before .before .before .before .args in
     pixel-scanned (a .scan) (a .z) (omega (arith, c .before .before .place .ensures, c .if2 .left))
 
-pub pixel-spec : {M : Type 1} → statement M
-pixel-spec = tie.close (tie.spec (λ c κs. search needs) returns (λ c κs. search needs) returns-2 returns-3)
+pub pixel-scanned-spec : {M : Type 1} → statement M
+pixel-scanned-spec = tie.close (tie.spec (λ c κs. search needs) returns (λ c κs. search needs) returns-2 returns-3)
