@@ -38,4 +38,7 @@ void calls(struct bench *b);
 /* The table of lookups. */
 void lookups(uint32_t lowest, uint32_t highest);
 
+/* The table of positions in mils, of the highest order there is. */
+void mils(void);
+
 #endif

@@ -56,7 +56,7 @@ size_t morton_stack(const uint8_t *accounts, size_t pixels, uint32_t *list)
 
 const char *const bed_names[BED_KINDS] = {"boards", "noise", "checkerboard", "uniform"};
 
-static uint32_t random_below(uint64_t *state, uint32_t bound)
+uint32_t random_below(uint64_t *state, uint32_t bound)
 {
     *state = *state * 6364136223846793005u + 1442695040888963407u;
     return (uint32_t)((*state >> 33) % bound);

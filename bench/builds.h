@@ -20,6 +20,9 @@ void linked_row(struct linked *scan, const uint8_t *accounts);
 size_t linked_list(const struct linked *scan, uint32_t *list);
 size_t linked_most(const struct linked *scan); /* the most tiles after any pixel */
 
+/* A number below a bound, at random, and the next state. */
+uint32_t random_below(uint64_t *state, uint32_t bound);
+
 /* The beds measured, row after row. */
 #define BED_KINDS 4
 extern const char *const bed_names[BED_KINDS];

@@ -46,11 +46,13 @@ static void claims(struct bench *b, size_t m, uint32_t corner)
     BOTH(ours, must(kb_preview(KB_ROWS, order, scanned, tiles, slots, m, corner, 2, 9).number),
          straight, must(straight_preview(KB_ROWS, order, scanned, tiles, slots, m, corner, 2, 9).number));
     cell(&ours, &straight, tiles);
+    kb_preview_answer freed = kb_preview(KB_ROWS, order, scanned, tiles, slots, m, corner, 2, 0);
+    must(freed.number);
     BOTH(ours, left = kb_claim(KB_ROWS, order, scanned, left, slots, m, corner, 2, 9).tiles;
          left = kb_claim(KB_ROWS, order, scanned, left, slots, m, corner, 2, 0).tiles,
          straight, left = straight_claim(KB_ROWS, order, scanned, left, slots, m, corner, 2, 9).tiles;
          left = straight_claim(KB_ROWS, order, scanned, left, slots, m, corner, 2, 0).tiles);
-    if (left != tiles) { /* after a refusal, whose count is 0, no claim leads back to this list */
+    if (left != freed.tiles) { /* after a refusal, whose count is 0, no claim leads back to this list */
         fprintf(stderr, "bench: a claim was refused\n");
         exit(1);
     }

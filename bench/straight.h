@@ -29,6 +29,9 @@ kb_combine_answer straight_combine(uint32_t choice,
                                    uint32_t order1, size_t tiles1, const uint32_t *slots1, size_t slots1_length,
                                    uint32_t order2, size_t tiles2, const uint32_t *slots2, size_t slots2_length,
                                    uint32_t *out, size_t out_length);
+kb_mils_pixel_answer straight_mils_pixel(uint32_t order, const uint8_t *text, size_t text_length);
+kb_mils_h_answer straight_mils_h(uint32_t order, uint32_t pixel);
+kb_mils_text_answer straight_mils_text(uint32_t order, uint32_t pixel, uint8_t *text, size_t text_length);
 
 /* Used by more than one of the files here. straight_place is how many places come before a pixel's own in a scan;
    straight_opening has the opening checks. */

@@ -1,6 +1,6 @@
 /* A host program for the library: scans a bed with some boards on it, asks ahead of the camera, claims a block, shows
-   the bed on a panel, goes over it with a head, asks who may place where and what lies in the reserved zones, archives
-   the map and reads it back, and is refused something.
+   the bed on a panel, goes over it with a head, asks who may place where, also by a position in mils, and what lies in
+   the reserved zones, archives the map and reads it back, and is refused something.
 
        gcc -O2 -Iinclude examples/beds.c target/staticlib/libkingletbed.a -o target/beds
        target/beds [MAP FILE]        bed.map unless named; kbmap draws it */
@@ -164,6 +164,31 @@ static void ask(const kb_scan *scan, uint32_t account, uint32_t column, uint32_t
     printf("%s\n", right.yes ? "yes" : "no");
 }
 
+/* The older layout tool's board files have positions in mils, a text each: it goes without its closing 0. */
+static kb_mils_pixel_answer in_mils(const char *position)
+{
+    return kb_mils_pixel(ORDER, (const uint8_t *)position, strlen(position));
+}
+
+/* May an account place at a position of its board file? */
+static void ask_in_mils(const kb_scan *scan, uint32_t account, const char *across, const char *down)
+{
+    kb_mils_pixel_answer column = in_mils(across), row = in_mils(down);
+    must(column.number, "the position across");
+    must(row.number, "the position down");
+    printf("And at %s mils across, %s down?\n", across, down);
+    ask(scan, account, column.pixel, row.pixel);
+}
+
+/* Prints where a column or row begins, in mils: a text of so many bytes, with no closing 0. */
+static void print_mils(uint32_t pixel, const char *behind)
+{
+    uint8_t text[KB_MILS_TEXT_MOST];
+    kb_mils_text_answer put = kb_mils_text(ORDER, pixel, text, sizeof text);
+    must(put.number, "the text of a position");
+    printf("%.*s%s", (int)put.length, (const char *)text, behind);
+}
+
 /* The reserved zones are a map of their own: two blocks of 16 by 16 pixels, where the head parks and where it changes
    nozzles. Account 1 holds them there; any would do. They are drawn on a bed that was scanned empty, since unscanned
    ground cannot be claimed. */
@@ -258,9 +283,14 @@ int main(int argc, char **argv)
     ask(&scan, 5, 6, 6);
     ask(&scan, 12, 62, 2);
     ask(&scan, 51, 62, 2);
+    ask_in_mils(&scan, 18, "677.16", "413.50");
+    printf("The block that account %d claimed begins at ", CLAIM_ACCOUNT);
+    print_mils(CLAIM_COLUMN, " mils across, ");
+    print_mils(CLAIM_ROW, " down.\n");
     reserved(&scan);
     archive(&scan, argc > 1 ? argv[1] : "bed.map");
     printf("A claim for account 256: %s.\n", kb_refusal_text(kb_scan_claim(&scan, 0, 0, 256)));
     printf("A block at column %d: %s.\n", SIDE, kb_refusal_text(kb_block(ORDER, SIDE, 0, CLAIM_SIZE).number));
+    printf("A position of 1007.88 mils: %s.\n", kb_refusal_text(in_mils("1007.88").number));
     return 0;
 }

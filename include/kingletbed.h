@@ -22,6 +22,10 @@
               scanned, in both kinds.
      free     is ground that is nobody's and scanned. Where a list has no tile, the ground may also be unscanned: then
               nothing is known of it.
+     mil      a thousandth of an inch. A position in mils says where along the columns, or along the rows, something
+              lies. Its text is one to five digits, a point and two digits, with no needless leading zero: 0.45 or
+              123.45, not .45, 00.45 or 1.5. In hundredths of a mil it is a number h, 45 or 12345. A pixel is 400
+              micrometres wide and an inch 25,400, so that h lies in column or row floor(h * 127 / 200000).
 
    Calling
      Nothing is allocated and nothing is kept between calls: a call works on its arguments alone, so calls on separate
@@ -56,7 +60,7 @@
 #include <stddef.h>
 #include <stdint.h>
 
-#define KB_VERSION "0.7.0"
+#define KB_VERSION "0.8.0"
 
 /* An answer that is dropped is a mistake, of which the compiler warns. */
 #if (defined(__cplusplus) && __cplusplus >= 201703L) || (defined(__STDC_VERSION__) && __STDC_VERSION__ >= 202311L)
@@ -119,7 +123,7 @@ enum kb_number {
     KB_SCAN_FULL = 23,          /* a pixel is fed to a scan that has them all */
     KB_ACCOUNT_TOO_LARGE = 24,  /* the account fed or claimed is above 63 */
     KB_SLOTS_EXCEEDED = 25,     /* the list after this pixel, claim, read or combine has more tiles than slots lent */
-    KB_BYTES_TOO_FEW = 26,      /* the bytes lent are fewer than the file takes */
+    KB_BYTES_TOO_FEW = 26,      /* the bytes lent are fewer than the file or the text takes */
 
     KB_POINT_OUTSIDE = 31,      /* the column or the row is not below 2^order */
     KB_BLOCK_INVALID = 32,      /* the size is above the order, the corner not below 4^order or no multiple of 4^size */
@@ -131,8 +135,9 @@ enum kb_number {
     KB_ROSTER_WRONG = 43,       /* the roster does not have each account of the tiles once, with the pixels it covers */
 
     KB_ORDERS_DIFFER = 51,      /* the two maps have different orders */
-    KB_UNSCANNED = 52           /* the point is unscanned, the block has an unscanned pixel, or the scan to be written
+    KB_UNSCANNED = 52,          /* the point is unscanned, the block has an unscanned pixel, or the scan to be written
                                    is unfinished */
+    KB_POSITION_INVALID = 53    /* the text is no position in mils, or the position is off the bed */
 };
 
 /* The answers. kb_check and kb_decode answer the number alone, kb_tile_corner, kb_tile_size and kb_tile_account the
@@ -141,6 +146,9 @@ typedef struct { uint32_t number; uint32_t side; uint32_t pixels; } kb_extent_an
 typedef struct { uint32_t number; uint32_t morton; } kb_morton_answer;
 typedef struct { uint32_t number; uint32_t corner; uint32_t size; } kb_block_answer;
 typedef struct { uint32_t number; uint32_t column; uint32_t row; } kb_point_answer;
+typedef struct { uint32_t number; uint32_t pixel; } kb_mils_pixel_answer;
+typedef struct { uint32_t number; uint32_t h; } kb_mils_h_answer;
+typedef struct { uint32_t number; size_t length; } kb_mils_text_answer;
 typedef struct { uint32_t number; uint32_t kind; uint32_t order; uint32_t pixels; size_t tiles; } kb_fresh_answer;
 typedef struct { uint32_t number; size_t taken; uint32_t kind; uint32_t order; uint32_t pixels; size_t tiles; }
     kb_feed_answer;
@@ -177,6 +185,32 @@ KB_MUST_USE kb_point_answer kb_point(uint32_t order, uint32_t morton);
 KB_MUST_USE uint32_t kb_tile_corner(uint32_t word);
 KB_MUST_USE uint32_t kb_tile_size(uint32_t word);
 KB_MUST_USE uint8_t kb_tile_account(uint32_t word);
+
+/* ---- Positions in mils ----
+   These calls go by one coordinate, a column or a row alike, and name it the pixel. A point of the bed takes two. */
+
+/* The column or row of a position. The text is its `text_length` bytes: a closing 0, a line feed or a blank that is
+   counted in makes it no position. So a C string goes as (const uint8_t *)string, strlen(string), not with its sizeof.
+   On a bed of order 10 the last position is 16125.98.
+     refuses   KB_ORDER_TOO_LARGE; KB_POSITION_INVALID for a text of another form, an empty one too, then for a position
+               off the bed. The pixel is then 0, which is a column and a row too: do not go on with it
+     storage   nothing is written */
+KB_MUST_USE kb_mils_pixel_answer kb_mils_pixel(uint32_t order, const uint8_t *text, size_t text_length);
+
+/* The smallest position in a column or row, in hundredths of a mil: at order 10 at most 1,611,024. It leads to the same
+   pixel again, and every smaller one to a smaller pixel.
+     refuses   KB_ORDER_TOO_LARGE, KB_POINT_OUTSIDE; h is then 0, which is a position too: do not go on with it */
+KB_MUST_USE kb_mils_h_answer kb_mils_h(uint32_t order, uint32_t pixel);
+
+/* The text of the position that kb_mils_h answers, as kb_mils_pixel takes it.
+     refuses   KB_ORDER_TOO_LARGE, KB_POINT_OUTSIDE, KB_BYTES_TOO_FEW
+     answers   the bytes written, 4 to KB_MILS_TEXT_MOST. No closing 0 is written: print them by "%.*s", or lend one
+               byte less than you have and put the 0 at `length` yourself.
+     storage   accepted, the first bytes hold the text and those past it are as they were; refused, all are */
+KB_MUST_USE kb_mils_text_answer kb_mils_text(uint32_t order, uint32_t pixel, uint8_t *text, size_t text_length);
+
+/* Bytes that are enough for the text of a position. */
+#define KB_MILS_TEXT_MOST 8
 
 /* ---- Calls on a map ----
    kb_feed, kb_lookup, kb_rights, kb_claim, kb_preview and kb_write are handed a scan's record. kb_check, kb_decode,
@@ -517,7 +551,7 @@ KB_MUST_USE static inline const char *kb_refusal_text(uint32_t number)
     case KB_SCAN_FULL: return "the scan already has every pixel";
     case KB_ACCOUNT_TOO_LARGE: return "the account is above 63";
     case KB_SLOTS_EXCEEDED: return "the list would have more tiles than there are slots";
-    case KB_BYTES_TOO_FEW: return "the bytes lent are fewer than the file takes";
+    case KB_BYTES_TOO_FEW: return "the bytes lent are fewer than the file or the text takes";
     case KB_POINT_OUTSIDE: return "the pixel is off the bed";
     case KB_BLOCK_INVALID:
         return "the block is larger than the bed, off the bed, or its corner not a multiple of its area";
@@ -528,6 +562,7 @@ KB_MUST_USE static inline const char *kb_refusal_text(uint32_t number)
     case KB_ROSTER_WRONG: return "the file's roster does not match its tiles";
     case KB_ORDERS_DIFFER: return "the two maps have different orders";
     case KB_UNSCANNED: return "the pixel, the block or the bed is not wholly scanned yet";
+    case KB_POSITION_INVALID: return "the text is no position in mils, or the position is off the bed";
     default: return "a number that this version does not know";
     }
 }

@@ -34,9 +34,10 @@ pub fn shift(text: &mut String) -> Result<(), Box<dyn Error>> {
     }
     writeln!(text, "{} of {} pixels scanned, {} tiles", bed.scanned(), bed.pixels(), bed.tiles().len())?;
 
-    // A student wants the block of 2 by 2 pixels around column 5 and row 2. That no tile is inside would not say that
-    // it is free.
-    let (student, at) = (Account(12), Pixel { column: 5, row: 2 });
+    // A student wants the block of 2 by 2 pixels around the first part of a board file, which is in mils. That no tile
+    // is inside would not say that it is free.
+    let (student, at) = (Account(12), Pixel::at_mils(bed.order(), b"80.00", b"40.00")?);
+    writeln!(text, "80.00, 40.00 in mils is column {}, row {}", at.column, at.row)?;
     let ground = Block::around(bed.order(), at, 1)?;
     writeln!(text, "the ground of {student} is free: {}", bed.account_of(ground)? == Some(Account::NOBODY))?;
     writeln!(text, "its claim would leave {} tiles", bed.preview(ground, student)?)?;

@@ -1,6 +1,6 @@
 //! Pixels and blocks, and what a lookup finds. Their numbers come from the library.
 
-use crate::{raw, Account, Refusal, HIGHEST_ORDER};
+use crate::{mils, raw, Account, Refusal, HIGHEST_ORDER};
 
 /// A pixel of a bed; column and row count from 0 at the north-west.
 ///
@@ -44,6 +44,17 @@ impl Pixel {
         let answer = raw::point(order, morton);
         Refusal::outcome(answer.number)?;
         Ok(Pixel { column: answer.column, row: answer.row })
+    }
+
+    /// The pixel at a position in [mils](crate::mils), its column and its row each as text, on a bed of an order.
+    ///
+    /// ```
+    /// use kingletbed::{Pixel, Refusal};
+    /// assert_eq!(Pixel::at_mils(3, b"123.45", b"67.80"), Ok(Pixel { column: 7, row: 4 }));
+    /// assert_eq!(Pixel::at_mils(2, b"123.45", b"67.80"), Err(Refusal::PositionInvalid));
+    /// ```
+    pub fn at_mils(order: u32, column: &[u8], row: &[u8]) -> Result<Pixel, Refusal> {
+        Ok(Pixel { column: mils::pixel(order, column)?, row: mils::pixel(order, row)? })
     }
 }
 

@@ -24,12 +24,15 @@
 //! # }
 //! ```
 //!
+//! A board file's position in thousandths of an inch, as `123.45`, is led to its pixel by [`Pixel::at_mils`]; [`mils`]
+//! has one coordinate by itself, and the way back.
+//!
 //! Every call answers. What it does not accept it refuses with a [`Refusal`], which says in words what was wrong, and a
 //! refused call changes nothing, except that a feed keeps the pixels ahead of the one that stopped it. The library
 //! behind this wrapper is proved to do so, for every list, every input and every sequence of calls; Morton numbers,
-//! blocks, extents and the fields of a word are the library's too. The wrapper gives the numbers types and ties a list
-//! to its slots. It needs no heap and no `std`, and does not panic. Each call checks the list it finds, one pass over
-//! its tiles, and one more on an unfinished scan. The calls as C has them are in [`raw`].
+//! blocks, extents, positions and the fields of a word are the library's too. The wrapper gives the numbers types and
+//! ties a list to its slots. It needs no heap and no `std`, and does not panic. Each call on a bed checks the list it
+//! finds, one pass over its tiles, and one more on an unfinished scan. The calls as C has them are in [`raw`].
 
 #![no_std]
 #![deny(unsafe_code, missing_docs)]
@@ -42,6 +45,7 @@ mod ask;
 mod bed;
 mod block;
 mod choice;
+pub mod mils;
 #[allow(unsafe_code)]
 pub mod raw;
 mod refusal;

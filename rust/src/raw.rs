@@ -25,11 +25,15 @@
 //! assert_eq!(raw::lookup(0, 1, 4, 1, &slots, 1, 1).number, 0); // a pixel too many: it reads as nobody's
 //! ```
 //!
-//! All unsafe code of this package is here.
+//! All unsafe code of this package is in this module.
 
 mod answers;
+mod numbers;
 
 pub use answers::{Around, Claimed, Combined, Extent, Fed, Found, Fresh, Morton, Part, Point, Reading, Right, Written};
+pub use answers::{MilsH, MilsPixel, MilsText};
+pub use numbers::{block, extent, morton, point, tile_account, tile_corner, tile_size};
+pub use numbers::{mils_h, mils_pixel, mils_text};
 
 #[rustfmt::skip]
 extern "C" {
@@ -54,13 +58,6 @@ extern "C" {
     fn kb_write(kind: u32, order: u32, pixels: u32, tiles: usize, slots: *const u32, slots_length: usize,
                 file: *mut u8, file_length: usize) -> Written;
     fn kb_read(file: *const u8, file_length: usize, slots: *mut u32, slots_length: usize) -> Reading;
-    fn kb_extent(order: u32) -> Extent;
-    fn kb_morton(order: u32, column: u32, row: u32) -> Morton;
-    fn kb_block(order: u32, column: u32, row: u32, size: u32) -> Around;
-    fn kb_point(order: u32, morton: u32) -> Point;
-    fn kb_tile_corner(word: u32) -> u32;
-    fn kb_tile_size(word: u32) -> u32;
-    fn kb_tile_account(word: u32) -> u8;
 }
 
 // Why the calls are safe: the library is proved to answer every number and whatever the lent storage holds, and asks
@@ -270,90 +267,6 @@ pub fn write(kind: u32, order: u32, pixels: u32, tiles: usize, slots: &[u32], fi
 #[must_use]
 pub fn read(file: &[u8], slots: &mut [u32]) -> Reading {
     unsafe { kb_read(file.as_ptr(), file.len(), slots.as_mut_ptr(), slots.len()) }
-}
-
-/// `kb_extent`. 2^order and 4^order: the columns and the pixels of a bed of an order, or of a block of a size.
-///
-/// ```
-/// use kingletbed::raw;
-/// let extent = raw::extent(3);
-/// assert_eq!((extent.side, extent.pixels), (8, 64));
-/// assert_eq!(raw::extent(11).number, 1);
-/// ```
-#[must_use]
-pub fn extent(order: u32) -> Extent {
-    unsafe { kb_extent(order) }
-}
-
-/// `kb_morton`. The Morton number of a point.
-///
-/// ```
-/// use kingletbed::raw;
-/// assert_eq!(raw::morton(2, 2, 1).morton, 6);
-/// assert_eq!(raw::morton(2, 4, 1).number, 31);
-/// ```
-#[must_use]
-pub fn morton(order: u32, column: u32, row: u32) -> Morton {
-    unsafe { kb_morton(order, column, row) }
-}
-
-/// `kb_block`. The block of a size that has a point in it.
-///
-/// ```
-/// use kingletbed::raw;
-/// let block = raw::block(2, 3, 1, 1);
-/// assert_eq!((block.corner, block.size), (4, 1));
-/// assert_eq!(raw::block(2, 3, 1, 3).number, 32);
-/// ```
-#[must_use]
-pub fn block(order: u32, column: u32, row: u32, size: u32) -> Around {
-    unsafe { kb_block(order, column, row, size) }
-}
-
-/// `kb_point`. The point of a Morton number.
-///
-/// ```
-/// use kingletbed::raw;
-/// let point = raw::point(2, 6);
-/// assert_eq!((point.column, point.row), (2, 1));
-/// assert_eq!(raw::point(2, 16).number, 32);
-/// ```
-#[must_use]
-pub fn point(order: u32, morton: u32) -> Point {
-    unsafe { kb_point(order, morton) }
-}
-
-/// `kb_tile_corner`. The corner that a word says, for every word.
-///
-/// ```
-/// use kingletbed::raw;
-/// assert_eq!(raw::tile_corner(12361), 12);
-/// ```
-#[must_use]
-pub fn tile_corner(word: u32) -> u32 {
-    unsafe { kb_tile_corner(word) }
-}
-
-/// `kb_tile_size`. The size that a word says, for every word.
-///
-/// ```
-/// use kingletbed::raw;
-/// assert_eq!(raw::tile_size(12361), 1);
-/// ```
-#[must_use]
-pub fn tile_size(word: u32) -> u32 {
-    unsafe { kb_tile_size(word) }
-}
-
-/// `kb_tile_account`. The account that a word says, for every word.
-///
-/// ```
-/// use kingletbed::raw;
-/// assert_eq!(raw::tile_account(12361), 9);
-/// ```
-#[must_use]
-pub fn tile_account(word: u32) -> u8 {
-    unsafe { kb_tile_account(word) }
 }
 
 #[cfg(test)]

@@ -25,7 +25,7 @@ macro_rules! refusals {
             ///
             /// ```
             /// use kingletbed::Refusal;
-            /// assert_eq!(Refusal::ALL.len(), 23);
+            /// assert_eq!(Refusal::ALL.len(), 24);
             /// ```
             pub const ALL: &'static [Refusal] = &[$(Refusal::$name,)*];
 
@@ -72,7 +72,7 @@ refusals! {
     ScanFull = 23, "the scan already has every pixel";
     AccountTooLarge = 24, "the account is above 63";
     SlotsExceeded = 25, "the list would have more tiles than there are slots";
-    BytesTooFew = 26, "the bytes lent are fewer than the file takes";
+    BytesTooFew = 26, "the bytes lent are fewer than the file or the text takes";
     PointOutside = 31, "the pixel is off the bed";
     BlockInvalid = 32, "the block is larger than the bed, off the bed, or its corner not a multiple of its area";
     RasterLength = 33, "the raster does not have one byte for each pixel";
@@ -82,6 +82,7 @@ refusals! {
     RosterWrong = 43, "the file's roster does not match its tiles";
     OrdersDiffer = 51, "the two maps have different orders";
     Unscanned = 52, "the pixel, the block or the bed is not wholly scanned yet";
+    PositionInvalid = 53, "the text is no position in mils, or the position is off the bed";
 }
 
 /// How many letters the header's spelling of a name has: one more for each capital but the first.
@@ -155,12 +156,12 @@ mod tests {
     #[test]
     fn outcomes() {
         assert_eq!(Refusal::outcome(0), Ok(()));
-        for number in 1..=53 {
+        for number in 1..=54 {
             let refusal = Refusal::outcome(number).expect_err("a refusal");
             assert!(refusal.number() <= number);
             assert_eq!(Refusal::from_number(number).unwrap_or(refusal), refusal);
         }
-        assert_eq!(Refusal::outcome(u32::MAX), Err(Refusal::Unscanned));
+        assert_eq!(Refusal::outcome(u32::MAX), Err(Refusal::PositionInvalid));
     }
 
     #[test]

@@ -14,6 +14,9 @@ void drop(kb_scan *scan, kb_lookup_answer found, uint32_t *slots, uint32_t *out,
     kb_tile_corner(0);
     kb_tile_size(0);
     kb_tile_account(0);
+    kb_mils_pixel(0, bytes, 1);
+    kb_mils_h(0, 0);
+    kb_mils_text(0, 0, bytes, 1);
     kb_check(0, 0, slots, 1);
     kb_fresh(KB_ROWS, 0, slots, 1);
     kb_feed(KB_ROWS, 0, 0, 0, slots, 1, bytes, 1);

@@ -1,23 +1,29 @@
 -- Laws of the checks of what a call is handed besides its map.
---     order-inside            1 where it passes; order-passed, what passes
+--     order-refused, order-inside    1 by how it ends; order-passed, what passes
 --     test-pointIn            the test of 31
 --     point-outside, -inside  31 by how it ends; point-passed, what passes
+--     coordinate-outside, -inside    31 of one coordinate by how it ends; coordinate-passed, -refused, what that says
 --     block-passed            what passes 32; block-unaligned, block-inside, how its last test ends
 --     shift-side              1 shifted by an order is the side of its bed
 use mathlib.Core.Path.{_≡_, sym}
 use Prim.Native.Nat.{ℕ, suc, _*_, _%_, _^_, _≤_, _<_}
+use native.Mathlib.Decide.{decLt}
 use native.Mathlib.Nat.{pow-le-pow-right}
 use native.Mathlib.Omega.{arith}
 use Rattle.basics.proofs.Tests.{Test, test-leb, test-and}
 use borrow.Author.Tests.{le-leb, lt-ltb, eq-eqb, ne-eqb}
-use Rattle.refusal.specs.Refusal.{accepted, pointOutside, blockInvalid}
+use Rattle.refusal.specs.Refusal.{accepted, orderTooLarge, pointOutside, blockInvalid}
 use Rattle.refusal.specs.Checks.{must}
 use Rattle.refusal.proofs.CheckLaws.{must-on, must-off, must-inv}
 use Rattle.tile.specs.Tile.{highestOrder}
 use Rattle.quadtree.specs.Raster.{Aligned, aligned}
 use Rattle.bed.specs.Bed.{blockIn}
 use Rattle.bed.proofs.BedLaws.{test-blockIn}
-use Rattle.checks.specs.Asked.{orderCheck, pointIn, pointCheck, blockCheck}
+use Rattle.checks.specs.Asked.{orderCheck, pointIn, pointCheck, coordinateCheck, blockCheck}
+
+pub order-refused : (n : ℕ) → highestOrder < n → orderTooLarge ≡ orderCheck n
+unfolding orderCheck
+order-refused n h = sym (must-off _ _ (test-leb n highestOrder) (λ l. omega arith))
 
 pub order-inside : (n : ℕ) → n ≤ highestOrder → orderCheck n ≡ accepted
 unfolding orderCheck
@@ -43,6 +49,25 @@ module _ (n c r : ℕ) where
   pub point-passed : pointCheck n c r ≡ accepted → (c < 2 ^ n) × (r < 2 ^ n)
   unfolding pointCheck
   point-passed e = must-inv (test-pointIn n c r) (omega arith) e .0
+
+module _ (n p : ℕ) where
+  pub coordinate-outside : 2 ^ n ≤ p → pointOutside ≡ coordinateCheck n p
+  unfolding coordinateCheck
+  coordinate-outside h = sym (must-off _ _ (test-leb (suc p) (2 ^ n)) (λ l. omega arith))
+
+  pub coordinate-inside : p < 2 ^ n → accepted ≡ coordinateCheck n p
+  unfolding coordinateCheck
+  coordinate-inside h = sym (must-on _ _ (test-leb (suc p) (2 ^ n)) h)
+
+  pub coordinate-passed : coordinateCheck n p ≡ accepted → p < 2 ^ n
+  unfolding coordinateCheck
+  coordinate-passed e = must-inv (test-leb (suc p) (2 ^ n)) (omega arith) e .0
+
+  pub coordinate-refused : (coordinateCheck n p ≡ accepted → ⊥) → 2 ^ n ≤ p
+  coordinate-refused f = elim (decLt p (2 ^ n)) [
+    | yes l ↦ absurd (f (sym (coordinate-inside l)))
+    | no l ↦ omega arith
+  ]
 
 pub block-passed : (n c k : ℕ) → blockCheck n c k ≡ accepted → (k ≤ n) × ((c < 4 ^ n) × Aligned k c)
 unfolding blockCheck

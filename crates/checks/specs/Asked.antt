@@ -3,6 +3,7 @@
 --     orderCheck n       1, the order of a call that is handed no map
 --     pointIn n c r      column c and row r are below 2 ^ n
 --     pointCheck n c r   31, the point asked
+--     coordinateCheck n p   31, the column or the row alone
 --     blockCheck n c k   32, the block asked
 --     askerCheck p       34, the asking account
 --     givenCheck a       24, the account given
@@ -22,6 +23,9 @@ pointIn n c r = ltb c (2 ^ n) && ltb r (2 ^ n)
 
 unfoldable pub pointCheck : ℕ → ℕ → ℕ → ℕ
 pointCheck n c r = must (pointIn n c r) pointOutside accepted
+
+unfoldable pub coordinateCheck : ℕ → ℕ → ℕ
+coordinateCheck n p = must (ltb p (2 ^ n)) pointOutside accepted
 
 unfoldable pub blockCheck : ℕ → ℕ → ℕ → ℕ
 blockCheck n c k = must (blockIn n c k) blockInvalid accepted

@@ -2,7 +2,7 @@
 ghost use mathlib.Core.Path.{_≡_};
 ghost use Prim.Native.Nat.{_≤_};
 ghost use Rattle.tile.specs.Tile.{highestOrder};
-ghost use Rattle.checks.specs.Asked.{orderCheck, pointCheck, blockCheck, askerCheck, givenCheck};
+ghost use Rattle.checks.specs.Asked.{orderCheck, pointCheck, coordinateCheck, blockCheck, askerCheck, givenCheck};
 
 // 1: the order is one of a bed. A call that is handed a map has it among the checks of the list.
 pub fn order(order: u32) -> u32
@@ -65,6 +65,18 @@ pub fn given(account: u8) -> u32
 {
     if bed::Scan::HIGHEST_ACCOUNT < account {
         return refusal::ACCOUNT_TOO_LARGE;
+    }
+    refusal::ACCEPTED
+}
+
+// 31: a column or a row, asked alone, is one of the bed's.
+pub fn coordinate(order: u32, pixel: u32) -> u32
+    requires { ⌜ order ≤ highestOrder ⌝ }
+    ensures { λ r. ⌜ r ≡ coordinateCheck order pixel ⌝ }
+{
+    let side = 1u32 << order;
+    if side <= pixel {
+        return refusal::POINT_OUTSIDE;
     }
     refusal::ACCEPTED
 }

@@ -1,11 +1,15 @@
 // Numbers in decimal, and lines of numbers, put into a lent buffer. As in crate `text`, what does not fit is counted.
+// And digits read as a number.
 ghost use mathlib.Core.Path.{_≡_};
+ghost use mathlib.Core.Bool.{true};
 ghost use mathlib.Core.List.{_++_};
-ghost use Prim.Native.Nat.{_+_, _<_};
+ghost use Prim.Native.Nat.{_+_, _-_, _^_, _<_};
 ghost use lib.ListN.{length};
 ghost use Rattle.text.specs.PutAt.{PutAt, countLimit};
 ghost use Rattle.decimal.specs.Decimal.{digitsBy, digitsMost, digits};
 ghost use Rattle.decimal.specs.Lines.{tripleMost, pairLine, tripleLine};
+ghost use Rattle.decimal.specs.Value.{zeroDigit, isDigit, digitsOnly, valueFrom};
+ghost use Rattle.decimal.specs.Nines.{nines};
 
 const LINE_FEED: u8 = b'\n';
 
@@ -13,7 +17,7 @@ const LINE_FEED: u8 = b'\n';
 const DIGITS_MOST: usize = 10;
 
 // The byte of a digit.
-fn digit(d: usize) -> u8
+pub fn digit(d: usize) -> u8
     requires { ⌜ d < 10 ⌝ }
     ensures { λ r. ⌜ r ≡ 48 + d ⌝ }
 {
@@ -72,4 +76,49 @@ pub fn put_triple(out: &mut [u8], at: usize, a: usize, b: usize, c: usize) -> us
     let q = put_field(out, p, b" ", b);
     let s = put_field(out, q, b" ", c);
     text::put(out, s, LINE_FEED)
+}
+
+fn is_digit(byte: u8) -> bool
+    ensures { λ r. ⌜ r ≡ isDigit byte ⌝ }
+{
+    if byte < b'0' {
+        return false;
+    }
+    byte <= b'9'
+}
+
+// The number of a digit.
+fn digit_number(byte: u8) -> u32
+    requires { ⌜ isDigit byte ≡ true ⌝ }
+    ensures { λ r. ⌜ r ≡ byte - zeroDigit ⌝ }
+{
+    (byte - b'0') as u32
+}
+
+// Whether each byte is that of a digit.
+pub fn digits_only(bytes: &[u8]) -> bool
+    ensures { λ r. ⌜ r ≡ digitsOnly (now (bytes .entry)) ⌝ }
+{
+    let mut i = 0;
+    while i < bytes.len() {
+        if !is_digit(bytes[i]) {
+            return false;
+        }
+        i += 1;
+    }
+    true
+}
+
+// The number `ahead` with digits written behind it.
+pub fn value_from(ahead: u32, bytes: &[u8]) -> u32
+    requires { ⌜ (digitsOnly (now bytes) ≡ true) × (nines ahead (length (now bytes)) < 2 ^ 32) ⌝ }
+    ensures { λ r. ⌜ r ≡ valueFrom ahead (now (bytes .entry)) ⌝ }
+{
+    let mut v = ahead;
+    let mut i = 0;
+    while i < bytes.len() {
+        v = v * 10 + digit_number(bytes[i]);
+        i += 1;
+    }
+    v
 }

@@ -6,6 +6,8 @@ ghost use Rattle.refusal.specs.Checks.{Gives};
 ghost use Rattle.tile.specs.Tile.{tileOf};
 ghost use Rattle.bed.specs.Places.{scanOf};
 ghost use Rattle.points.specs.Points.{extentOf, numberOf, aroundOf, pointOf};
+ghost use Rattle.mils.specs.declared.PutText.{PutText};
+ghost use Rattle.mils.specs.Calls.{pixelOf, hundredthsOf, textOf};
 ghost use Rattle.list_check.specs.ListCheck.{listCheck};
 ghost use Rattle.scan.specs.FreshScan.{freshOf};
 ghost use Rattle.scan.specs.Feed.{feedOf};
@@ -31,6 +33,9 @@ use combine_rule::Choice;
 use lookup::Found;
 use mapfile_read::Reading;
 use mapfile_write::Written;
+use mils::Hundredths;
+use mils::Pixel;
+use mils::PutText;
 use part::Part;
 use points::Around;
 use points::Extent;
@@ -317,4 +322,25 @@ pub extern "C" fn kb_read(file: &[u8], slots: &mut [u32]) -> Reading
     ensures { λ r. ⌜ Gives r (now (slots .exit)) (readOf (now (file .entry)) (now (slots .entry))) ⌝ }
 {
     mapfile_read::read(file, slots)
+}
+
+#[no_mangle]
+pub extern "C" fn kb_mils_pixel(order: u32, text: &[u8]) -> Pixel
+    ensures { λ r. ⌜ r ≡ pixelOf order (now (text .entry)) ⌝ }
+{
+    mils::pixel_of(order, text)
+}
+
+#[no_mangle]
+pub extern "C" fn kb_mils_h(order: u32, pixel: u32) -> Hundredths
+    ensures { λ r. ⌜ r ≡ hundredthsOf order pixel ⌝ }
+{
+    mils::hundredths_of(order, pixel)
+}
+
+#[no_mangle]
+pub extern "C" fn kb_mils_text(order: u32, pixel: u32, text: &mut [u8]) -> PutText
+    ensures { λ r. ⌜ Gives r (now (text .exit)) (textOf order pixel (now (text .entry))) ⌝ }
+{
+    mils::text_of(order, pixel, text)
 }

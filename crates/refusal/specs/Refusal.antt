@@ -1,5 +1,6 @@
 -- The refusal numbers (document 01, "Refusals by the place of the check"; from 51 on document 02), under the name of
--- the condition met. Definitions only. `accepted` is no refusal. The comment is the table's own row.
+-- the condition met. Definitions only. `accepted` is no refusal. The comment is the table's own row, and what a request
+-- added to it.
 use Prim.Native.Nat.{ℕ}
 
 abbrev pub accepted : ℕ
@@ -58,7 +59,7 @@ accountTooLarge = 24
 abbrev pub slotsExceeded : ℕ
 slotsExceeded = 25
 
--- fewer bytes lent than the file takes
+-- fewer bytes lent than the file or the text takes
 abbrev pub bytesTooFew : ℕ
 bytesTooFew = 26
 
@@ -97,3 +98,7 @@ ordersDiffer = 51
 -- an unscanned point, a block with an unscanned pixel, or a file to be written from an unfinished scan
 abbrev pub unscanned : ℕ
 unscanned = 52
+
+-- a position in mils that is a text of another form, or off the bed
+abbrev pub positionInvalid : ℕ
+positionInvalid = 53

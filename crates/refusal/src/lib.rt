@@ -48,3 +48,5 @@ pub const ROSTER_WRONG: u32 = 43;
 pub const ORDERS_DIFFER: u32 = 51;
 
 pub const UNSCANNED: u32 = 52;
+
+pub const POSITION_INVALID: u32 = 53;

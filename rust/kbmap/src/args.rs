@@ -3,8 +3,9 @@
 use crate::failure::Failure;
 use crate::input::Source;
 use crate::output::Target;
-use kingletbed::{Choice, Pixel};
+use kingletbed::Choice;
 use std::ffi::OsString;
+use std::fmt::Display;
 
 /// What `--help` says.
 pub const HELP: &str = include_str!("help.txt");
@@ -16,28 +17,42 @@ pub enum Command {
     Version,
     Check { file: Source },
     Show { file: Source },
-    At { file: Source, pixel: Pixel },
+    At { file: Source, place: Place },
     Scan { image: Source, out: Target },
     Decode { file: Source, out: Target, plain: bool },
-    Claim { file: Source, out: Option<Target>, claim: Claim },
-    Preview { file: Source, claim: Claim },
+    Claim { file: Source, out: Option<Target>, claim: Claim<Place> },
+    Preview { file: Source, claim: Claim<Place> },
     Combine { choice: Choice, file: Source, zones: Source, out: Target },
     Draw { file: Source, out: Target, style: Style },
 }
 
+/// A column or a row: its number, or a position in mils, as it was given. The library says what that is.
+#[derive(Debug, PartialEq, Eq)]
+pub enum Coordinate {
+    Number(u32),
+    Mils(Vec<u8>),
+}
+
+/// A pixel as it was named. Which one a position in mils lies in, and whether in any, depends on the bed.
+#[derive(Debug, PartialEq, Eq)]
+pub struct Place {
+    pub column: Coordinate,
+    pub row: Coordinate,
+}
+
 /// A block to give away: by its corner or a pixel in it, and its size. Without an account it is released.
 #[derive(Debug, PartialEq, Eq)]
-pub struct Claim {
-    pub corner: Corner,
+pub struct Claim<P> {
+    pub corner: Corner<P>,
     pub size: u32,
     pub account: Option<u32>,
 }
 
 /// A block's corner as a Morton number, or any pixel of the block.
 #[derive(Debug, PartialEq, Eq)]
-pub enum Corner {
+pub enum Corner<P> {
     Morton(u32),
-    In(Pixel),
+    In(P),
 }
 
 /// How to draw.
@@ -62,7 +77,7 @@ pub fn parse(args: impl IntoIterator<Item = OsString>) -> Result<Command, Failur
         Some("help") => Command::Help,
         Some("check") => Command::Check { file: line.source("FILE")? },
         Some("show") => Command::Show { file: line.source("FILE")? },
-        Some("at") => Command::At { file: line.source("FILE")?, pixel: line.pixel()? },
+        Some("at") => Command::At { file: line.source("FILE")?, place: line.place()? },
         Some("scan") => Command::Scan { image: line.source("IMAGE")?, out: line.target()? },
         Some("decode") => {
             Command::Decode { file: line.source("FILE")?, out: line.target()?, plain: line.flag("--plain") }
@@ -154,12 +169,15 @@ impl Line {
     }
 
     fn number(&mut self, what: &str) -> Result<u32, Failure> {
-        let word = self.word(what)?;
-        number(what, &word.to_string_lossy())
+        number(what, WHOLE, self.word(what)?.as_encoded_bytes())
     }
 
-    fn pixel(&mut self) -> Result<Pixel, Failure> {
-        Ok(Pixel { column: self.number("COLUMN")?, row: self.number("ROW")? })
+    fn coordinate(&mut self, what: &str) -> Result<Coordinate, Failure> {
+        coordinate(what, self.word(what)?.as_encoded_bytes())
+    }
+
+    fn place(&mut self) -> Result<Place, Failure> {
+        Ok(Place { column: self.coordinate("COLUMN")?, row: self.coordinate("ROW")? })
     }
 
     fn claim(&mut self, account: bool) -> Result<Command, Failure> {
@@ -167,8 +185,8 @@ impl Line {
         Ok(Command::Claim { file, out: self.value("-o").map(Target::of), claim })
     }
 
-    fn block(&mut self, account: bool) -> Result<Claim, Failure> {
-        let corner = corner(&self.word("CORNER")?.to_string_lossy())?;
+    fn block(&mut self, account: bool) -> Result<Claim<Place>, Failure> {
+        let corner = corner(self.word("CORNER")?.as_encoded_bytes())?;
         let size = self.number("SIZE")?;
         let account = if account { Some(self.number("ACCOUNT")?) } else { None };
         Ok(Claim { corner, size, account })
@@ -199,7 +217,7 @@ impl Line {
 
     fn width(&mut self) -> Result<Option<usize>, Failure> {
         match self.value("--width") {
-            Some(word) => Ok(usize::try_from(number("--width", &word.to_string_lossy())?).ok()),
+            Some(word) => Ok(usize::try_from(number("--width", WHOLE, word.as_encoded_bytes())?).ok()),
             None => Ok(None),
         }
     }
@@ -215,16 +233,32 @@ impl Line {
     }
 }
 
-fn number(what: &str, word: &str) -> Result<u32, Failure> {
-    let digits = !word.is_empty() && word.bytes().all(|byte| byte.is_ascii_digit());
-    let number = if digits { word.parse().ok() } else { None };
-    number.ok_or_else(|| Failure::usage(format!("{what} is a whole number from 0 to {}, not {word}", u32::MAX)))
+/// What a number is, in words.
+const WHOLE: &str = "a whole number from 0 to 4294967295";
+
+/// The number that a word is, or, if it is none, what the word should be.
+fn number(what: &str, should: impl Display, word: &[u8]) -> Result<u32, Failure> {
+    let text = String::from_utf8_lossy(word);
+    let digits = !word.is_empty() && word.iter().all(u8::is_ascii_digit);
+    let number = if digits { text.parse().ok() } else { None };
+    number.ok_or_else(|| Failure::usage(format!("{what} is {should}, not {text}")))
 }
 
-fn corner(word: &str) -> Result<Corner, Failure> {
-    match word.split_once(',') {
-        Some((column, row)) => Ok(Corner::In(Pixel { column: number("COLUMN", column)?, row: number("ROW", row)? })),
-        None => Ok(Corner::Morton(number("CORNER", word)?)),
+/// What has a point in it is meant as a position in mils.
+fn coordinate(what: &str, word: &[u8]) -> Result<Coordinate, Failure> {
+    if word.contains(&b'.') {
+        return Ok(Coordinate::Mils(word.to_vec()));
+    }
+    number(what, format_args!("{WHOLE}, or a position in mils as 123.45"), word).map(Coordinate::Number)
+}
+
+fn corner(word: &[u8]) -> Result<Corner<Place>, Failure> {
+    let mut parts = word.splitn(2, |&byte| byte == b',');
+    match (parts.next(), parts.next()) {
+        (Some(column), Some(row)) => {
+            Ok(Corner::In(Place { column: coordinate("COLUMN", column)?, row: coordinate("ROW", row)? }))
+        }
+        _ => number("CORNER", format_args!("COLUMN,ROW or {WHOLE}"), word).map(Corner::Morton),
     }
 }
 

@@ -14,10 +14,14 @@ pub use combine::combine;
 pub use draw::draw;
 pub use raster::{decode, scan};
 
+use crate::args::{Coordinate, Place};
 use crate::failure::{note, Failure};
 use crate::input::Source;
 use crate::lock::same_file;
+use crate::map::Map;
 use crate::output::{print, Target};
+use crate::words::visible;
+use kingletbed::{mils, Pixel};
 use std::path::Path;
 
 /// What is made of a file must not take its place.
@@ -32,6 +36,19 @@ fn apart(file: &Source, out: &Target) -> Result<(), Failure> {
         }
         _ => Ok(()),
     }
+}
+
+/// The pixel of a place on a map's bed. Numbers are taken as they are: whoever asks for the pixel checks them.
+fn pixel(map: &Map, place: &Place) -> Result<Pixel, Failure> {
+    let order = map.bed.order();
+    let number = |what: &str, coordinate: &Coordinate| match coordinate {
+        Coordinate::Number(number) => Ok(*number),
+        Coordinate::Mils(text) => mils::pixel(order, text).map_err(|refusal| {
+            let position = visible(&String::from_utf8_lossy(text));
+            map.refused(refusal, format!("{what} {position}, on a bed of order {order}"))
+        }),
+    };
+    Ok(Pixel { column: number("COLUMN", &place.column)?, row: number("ROW", &place.row)? })
 }
 
 /// Tells what was done: on standard output, or on standard error if the result went there.

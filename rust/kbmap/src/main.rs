@@ -41,7 +41,7 @@ fn obey(command: Command) -> Result<(), Failure> {
         Command::Version => output::print(concat!("kbmap ", env!("CARGO_PKG_VERSION"), "\n")),
         Command::Check { file } => commands::check(&file),
         Command::Show { file } => commands::show(file),
-        Command::At { file, pixel } => commands::at(file, pixel),
+        Command::At { file, place } => commands::at(file, &place),
         Command::Scan { image, out } => commands::scan(&image, &out),
         Command::Decode { file, out, plain } => commands::decode(file, &out, plain),
         Command::Preview { file, claim } => commands::preview(file, &claim),

@@ -2,16 +2,8 @@
 
 mod common;
 
-use common::{answer, noise, Answer, Scratch, BED, PICTURE, ZONES};
+use common::{answer, noise, ok, refused, Scratch, BED, PICTURE, ZONES};
 use std::fs;
-
-fn ok(text: &str) -> Answer {
-    Answer { status: 0, out: text.as_bytes().to_vec(), err: String::new() }
-}
-
-fn refused(err: &str) -> Answer {
-    Answer { status: 1, out: Vec::new(), err: err.to_owned() }
-}
 
 #[test]
 fn help_and_version() {
@@ -97,42 +89,6 @@ fn show() {
         9  student        3        6   37.5 %
 ";
     assert_eq!(Scratch::with_bed().kbmap("show bed.map"), ok(text));
-}
-
-#[test]
-fn at() {
-    let scratch = Scratch::with_bed();
-    let held =
-        "column 3, row 2: account 9, student\n  tile: corner 12, size 1: columns 2 to 3, rows 2 to 3, 4 pixels\n";
-    assert_eq!(scratch.kbmap("at bed.map 3 2"), ok(held));
-    let single = "column 3, row 1: account 9, student\n  tile: corner 7, size 0: column 3, row 1, 1 pixel\n";
-    assert_eq!(scratch.kbmap("at bed.map 3 1"), ok(single));
-    let free = "column 1, row 2: nobody's\n  free block: corner 9, size 0: column 1, row 2, 1 pixel\n";
-    assert_eq!(scratch.kbmap("at bed.map 1 2"), ok(free));
-    // Account 9's pixel in the block NE released, the whole block is free.
-    assert_eq!(scratch.kbmap("release bed.map 3,1 0 -o fewer.map").status, 0);
-    let larger = "column 2, row 0: nobody's\n  free block: corner 4, size 1: columns 2 to 3, rows 0 to 1, 4 pixels\n";
-    assert_eq!(scratch.kbmap("at fewer.map 2 0"), ok(larger));
-    let outside = "kbmap: bed.map: refused, 31 POINT_OUTSIDE: the pixel is off the bed\n  \
-                   column 4, row 0, on a bed of 4 by 4 pixels\n";
-    assert_eq!(scratch.kbmap("at bed.map 4 0"), refused(outside));
-}
-
-/// Every pixel of a bed of many accounts, as the picture has it.
-#[test]
-fn at_every_pixel() {
-    let scratch = Scratch::new();
-    let picture = noise(8);
-    assert_eq!(scratch.fed("scan - -o bed.map", &picture).status, 0);
-    for (at, &account) in picture[picture.len() - 64..].iter().enumerate() {
-        let (column, row) = (at % 8, at / 8);
-        let answer = scratch.kbmap(&format!("at bed.map {column} {row}"));
-        let who = if account == 0 { "nobody's\n".to_owned() } else { format!("account {account}, ") };
-        let text = answer.text();
-        assert!(text.starts_with(&format!("column {column}, row {row}: {who}")), "{text}");
-        let what = if account == 0 { "\n  free block: corner " } else { "\n  tile: corner " };
-        assert!(text.contains(what), "{text}");
-    }
 }
 
 #[test]

@@ -158,3 +158,33 @@ pub struct Point {
     /// The row.
     pub row: u32,
 }
+
+/// `kb_mils_pixel_answer`.
+#[repr(C)]
+#[derive(Clone, Copy, Debug, PartialEq, Eq)]
+pub struct MilsPixel {
+    /// 0, or the number of the first check broken.
+    pub number: u32,
+    /// The pixel, along a row or a column.
+    pub pixel: u32,
+}
+
+/// `kb_mils_h_answer`.
+#[repr(C)]
+#[derive(Clone, Copy, Debug, PartialEq, Eq)]
+pub struct MilsH {
+    /// 0, or the number of the first check broken.
+    pub number: u32,
+    /// The hundredths of a mil.
+    pub h: u32,
+}
+
+/// `kb_mils_text_answer`.
+#[repr(C)]
+#[derive(Clone, Copy, Debug, PartialEq, Eq)]
+pub struct MilsText {
+    /// 0, or the number of the first check broken.
+    pub number: u32,
+    /// The length.
+    pub length: usize,
+}

@@ -51,6 +51,22 @@ pub fn in_order(count: &mut Count) {
         behind(count, record(6), &[word(0, 1, 5)]);
         by_kind(count, kind);
     }
+    positions(count);
+}
+
+/// Positions in mils, the way there and the way back.
+fn positions(count: &mut Count) {
+    for order in [11, u32::MAX] {
+        assert_eq!(count.mils_pixel(order, b""), (1, 0));
+        assert_eq!(count.mils_h(order, u32::MAX), (1, 0));
+        assert_eq!(count.mils_text(order, u32::MAX, b"").0, 1);
+    }
+    for order in 0..=10 {
+        assert_eq!(count.mils_pixel(order, b""), (53, 0));
+        assert_eq!(count.mils_h(order, 1 << order), (31, 0));
+        assert_eq!(count.mils_text(order, 1 << order, b"").0, 31);
+        assert_eq!(count.mils_text(order, (1 << order) - 1, b"...").0, 26);
+    }
 }
 
 /// Five pixels of order 2: by rows the block NW lacks its last one, which in Morton order is there, and (3, 0) is not.
@@ -109,7 +125,7 @@ const LIST: &[u32] = &[1, 2, 11, 12, 13, 14, 15, 16];
 const SCAN: &[u32] = &[21, 22];
 
 /// The refusals of each call.
-const CALLS: [(&str, &[&[u32]]); 19] = [
+const CALLS: [(&str, &[&[u32]]); 23] = [
     ("check", &[LIST]),
     ("fresh", &[&[1]]),
     ("feed", &[LIST, SCAN, &[23, 24, 25]]),
@@ -126,6 +142,10 @@ const CALLS: [(&str, &[&[u32]]); 19] = [
     ("morton", &[&[1, 31]]),
     ("block", &[&[1, 31, 32]]),
     ("point", &[&[1, 32]]),
+    ("mils_pixel", &[&[1, 53]]),
+    ("mils_h", &[&[1, 31]]),
+    ("mils_text", &[&[1, 31, 26]]),
+    ("at_mils", &[&[1, 53]]),
     ("from_scan", &[LIST, SCAN]),
     ("shown", &[LIST, SCAN, &[32]]),
     ("account_of", &[LIST, SCAN, &[32, 52]]),

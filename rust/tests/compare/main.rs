@@ -15,6 +15,7 @@ mod large;
 mod lent;
 mod limits;
 mod living;
+mod mils;
 mod pair;
 #[path = "../plain/mod.rs"]
 mod plain;
@@ -40,16 +41,17 @@ struct Group {
 }
 
 /// Once, first.
-const ONCE: [Group; 5] = [
+const ONCE: [Group; 6] = [
     Group { name: "worked", case: |_, count| worked::lines(count), round: 1 },
     Group { name: "checks", case: |_, count| checks::in_order(count), round: 1 },
     Group { name: "limits", case: |_, count| limits::all(count), round: 1 },
     Group { name: "every-point", case: |_, count| points::all(count), round: 1 },
+    Group { name: "every-position", case: |_, count| mils::all(count), round: 1 },
     Group { name: "patterns", case: large::patterns, round: 1 },
 ];
 
 /// Round after round until the time is over.
-const ROUNDS: [Group; 9] = [
+const ROUNDS: [Group; 10] = [
     Group { name: "sequences", case: sequences::case, round: 1000 },
     Group { name: "scans", case: scans::case, round: 500 },
     Group { name: "lists", case: damage::list_case, round: 5000 },
@@ -57,6 +59,7 @@ const ROUNDS: [Group; 9] = [
     Group { name: "combine", case: combine::case, round: 1000 },
     Group { name: "pairs", case: damage::pair_case, round: 2000 },
     Group { name: "points", case: points::case, round: 5000 },
+    Group { name: "positions", case: mils::case, round: 5000 },
     Group { name: "equal", case: equal::case, round: 1000 },
     Group { name: "large", case: large::case, round: 1 },
 ];

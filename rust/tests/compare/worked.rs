@@ -1,5 +1,5 @@
-//! The worked lines of the scope paper, those that are proved as well, and those of lookups, previews and unfinished
-//! scans. The numbers are the paper's or computed by the checker, not the plain implementation's.
+//! The worked lines of the scope paper, those that are proved as well, and those of lookups, previews, unfinished scans
+//! and positions. The numbers are the papers' or computed by the checker, not the plain implementation's.
 
 use crate::living::Living;
 use crate::pair::Count;
@@ -30,6 +30,7 @@ pub fn lines(count: &mut Count) {
     zones(count);
     halfway(count);
     nobodys(count);
+    positions(count);
 }
 
 fn bed_m(count: &mut Count) {
@@ -221,4 +222,37 @@ fn nobodys(count: &mut Count) {
     ] {
         assert_eq!(count.claim(record, &mut vec![0; 6], corner, size, 5).0, number);
     }
+}
+
+/// Positions in mils: the last one, the step from a pixel to the next, the form, and the way back.
+fn positions(count: &mut Count) {
+    for (order, text, pixel) in [
+        (10, "16125.98", 1023),
+        (3, "123.45", 7),
+        (1, "15.74", 0),
+        (1, "15.75", 1),
+        (0, "0.45", 0),
+        (0, "0.00", 0),
+        (10, "16110.24", 1023),
+        (10, "16110.23", 1022),
+    ] {
+        assert_eq!(count.mils_pixel(order, text.as_bytes()), (0, pixel), "{text}");
+    }
+    for (order, text) in [(10, "16125.99"), (2, "123.45"), (0, "15.75"), (10, "99999.99")] {
+        assert_eq!(count.mils_pixel(order, text.as_bytes()), (53, 0), "{text}");
+    }
+    for text in [".45", "00.45", "01.00", "100000.00", "12.0", "12.000", "12345", "1.", ".", "1.00.00", "1,00", ""] {
+        assert_eq!(count.mils_pixel(10, text.as_bytes()), (53, 0), "{text}");
+    }
+    for text in [" 1.00", "1.00 ", "+1.00", "-1.00", "1.00\n", "1.00\r\n", "1.00\0", "1e.00", "\u{661}.00"] {
+        assert_eq!(count.mils_pixel(10, text.as_bytes()), (53, 0), "{text}");
+    }
+    for (order, pixel, hundredths, text) in
+        [(10, 1023, 1_611_024, "16110.24"), (0, 0, 0, "0.00"), (1, 1, 1575, "15.75"), (2, 3, 4725, "47.25")]
+    {
+        assert_eq!(count.mils_h(order, pixel), (0, hundredths));
+        assert_eq!(count.mils_text(order, pixel, &[7; 9]), (0, text.as_bytes().to_vec()));
+        assert_eq!(count.mils_text(order, pixel, &vec![7; text.len() - 1]), (26, vec![]));
+    }
+    assert_eq!(count.mils_h(9, 1023), (31, 0));
 }

@@ -4,6 +4,7 @@
 pub mod bed;
 pub mod file;
 pub mod list;
+pub mod mils;
 pub mod points;
 pub mod tally;
 

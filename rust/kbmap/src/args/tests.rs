@@ -1,5 +1,6 @@
 //! Command lines, good and bad.
 
+use super::Coordinate::{Mils, Number};
 use super::*;
 use std::path::PathBuf;
 
@@ -20,7 +21,8 @@ fn commands() {
     assert_eq!(parsed("check bed.map"), Ok(Command::Check { file: bed() }));
     assert_eq!(parsed("check -"), Ok(Command::Check { file: Source::Standard }));
     assert_eq!(parsed("show -- -odd"), Ok(Command::Show { file: Source::File("-odd".into()) }));
-    assert_eq!(parsed("at bed.map 3 1"), Ok(Command::At { file: bed(), pixel: Pixel { column: 3, row: 1 } }));
+    let at = |column, row| Ok(Command::At { file: bed(), place: Place { column, row } });
+    assert_eq!(parsed("at bed.map 3 1"), at(Number(3), Number(1)));
     let image = Source::File("bed.pgm".into());
     assert_eq!(parsed("scan -o bed.map bed.pgm"), Ok(Command::Scan { image, out: to("bed.map") }));
     let decode = |plain| Ok(Command::Decode { file: bed(), out: Target::Standard, plain });
@@ -40,7 +42,7 @@ fn help_and_version() {
 #[test]
 fn claims() {
     let claim = |corner, account| Claim { corner, size: 3, account };
-    let at = Corner::In(Pixel { column: 40, row: 24 });
+    let at = Corner::In(Place { column: Number(40), row: Number(24) });
     let claimed = Command::Claim { file: bed(), out: None, claim: claim(Corner::Morton(2496), Some(21)) };
     assert_eq!(parsed("claim bed.map 2496 3 21"), Ok(claimed));
     let released = Command::Claim { file: bed(), out: Some(to("new.map")), claim: claim(at, None) };
@@ -49,6 +51,40 @@ fn claims() {
     assert_eq!(parsed("release - 0 3"), Ok(piped));
     let preview = Command::Preview { file: bed(), claim: claim(Corner::Morton(2496), Some(21)) };
     assert_eq!(parsed("preview bed.map 2496 3 21"), Ok(preview));
+}
+
+/// Any word with a point in it, and whatever else: the library is to say what it is.
+#[test]
+fn positions() {
+    let mils = |text: &str| Mils(text.as_bytes().to_vec());
+    let at = |column, row| Ok(Command::At { file: bed(), place: Place { column, row } });
+    assert_eq!(parsed("at bed.map 123.45 67.80"), at(mils("123.45"), mils("67.80")));
+    assert_eq!(parsed("at bed.map 7 67.80"), at(Number(7), mils("67.80")));
+    assert_eq!(parsed("at bed.map .x 7"), at(mils(".x"), Number(7)));
+    assert_eq!(parsed("at bed.map -- -1.50 +1.50"), at(mils("-1.50"), mils("+1.50")));
+    let release = |column, row| {
+        let claim = Claim { corner: Corner::In(Place { column, row }), size: 1, account: None };
+        Ok(Command::Claim { file: bed(), out: None, claim })
+    };
+    assert_eq!(parsed("release bed.map 123.45,67.80 1"), release(mils("123.45"), mils("67.80")));
+    assert_eq!(parsed("release bed.map 123.45,4 1"), release(mils("123.45"), Number(4)));
+    assert_eq!(parsed("release bed.map 7,67,80. 1"), release(Number(7), mils("67,80.")));
+}
+
+/// A word need not be text.
+#[cfg(unix)]
+#[test]
+fn odd_words() {
+    use std::os::unix::ffi::OsStringExt;
+    let parsed = |words: [&[u8]; 4]| parse(words.map(|word| OsString::from_vec(word.to_vec())));
+    let place = Place { column: Mils(b"1\xff.5\n".to_vec()), row: Number(0) };
+    assert_eq!(parsed([b"at", b"bed.map", b"1\xff.5\n", b"0"]), Ok(Command::At { file: bed(), place }));
+    let corner = Corner::In(Place { column: Number(1), row: Mils(b"\xff.".to_vec()) });
+    let released = Command::Claim { file: bed(), out: None, claim: Claim { corner, size: 2, account: None } };
+    assert_eq!(parsed([b"release", b"bed.map", b"1,\xff.", b"2"]), Ok(released));
+    for words in [[&b"at"[..], b"bed.map", b"1\xff", b"0"], [b"release", b"bed.map", b"\xff", b"2"]] {
+        assert_eq!(parsed(words).map_err(|failure| failure.status), Err(2));
+    }
 }
 
 #[test]
@@ -96,10 +132,16 @@ fn mistakes() {
     assert_eq!(hint("scan a -o"), "nothing follows -o");
     assert_eq!(hint("scan a -o b -o c"), "-o is there a second time");
     assert_eq!(hint("at a 1"), "ROW is missing");
-    assert_eq!(hint("at a 1 x"), "ROW is a whole number from 0 to 4294967295, not x");
-    assert_eq!(hint("at a +1 2"), "COLUMN is a whole number from 0 to 4294967295, not +1");
-    assert_eq!(hint("claim a 1,2 4294967296 3"), "SIZE is a whole number from 0 to 4294967295, not 4294967296");
-    assert_eq!(hint("claim a 1, 2 3"), "ROW is a whole number from 0 to 4294967295, not ");
+    let number = format!("a whole number from 0 to {}", u32::MAX);
+    let coordinate = format!("{number}, or a position in mils as 123.45");
+    assert_eq!(hint("at a 1 x"), format!("ROW is {coordinate}, not x"));
+    assert_eq!(hint("at a +1 2"), format!("COLUMN is {coordinate}, not +1"));
+    assert_eq!(hint("at a 1,00 2.00"), format!("COLUMN is {coordinate}, not 1,00"));
+    assert_eq!(hint("at a -1.00 2"), "there is no option -1.00");
+    assert_eq!(hint("claim a 1,2 4294967296 3"), format!("SIZE is {number}, not 4294967296"));
+    assert_eq!(hint("claim a 1,2 1.00 3"), format!("SIZE is {number}, not 1.00"));
+    assert_eq!(hint("claim a 1, 2 3"), format!("ROW is {coordinate}, not "));
+    assert_eq!(hint("claim a 1.00 2 3"), format!("CORNER is COLUMN,ROW or {number}, not 1.00"));
     assert_eq!(hint("release a 0 1 2"), "release takes no further 2");
     assert_eq!(hint("preview a 0 1"), "ACCOUNT is missing");
     assert_eq!(hint("preview a 0 1 2 -o b"), "preview takes no -o here");

@@ -1,11 +1,13 @@
 //! `show` and `at`: what a map file says.
 
+use super::pixel;
+use crate::args::Place;
 use crate::failure::Failure;
 use crate::input::Source;
 use crate::map::{Holding, Map};
 use crate::output::print;
 use crate::words::{class, count, share, span};
-use kingletbed::{raw, Account, Block, Found, Pixel};
+use kingletbed::{mils, raw, Account, Block, Found, Pixel};
 use std::fmt::Write;
 
 /// Order, tiles, and the accounts with what they have.
@@ -42,17 +44,21 @@ fn table(text: &mut String, holdings: &[Holding], pixels: u32) {
     }
 }
 
-/// Who has a pixel, and by which tile, or the free block around it.
-pub fn at(file: Source, pixel: Pixel) -> Result<(), Failure> {
+/// Who has a pixel, by which tile, or the free block around it, and where the pixel begins in mils.
+pub fn at(file: Source, place: &Place) -> Result<(), Failure> {
     let map = Map::open(file)?;
+    let pixel = pixel(&map, place)?;
     let Pixel { column, row } = pixel;
-    let asked = || format!("column {column}, row {row}, on a bed of {}", map.extent());
-    let Found { account, block } = map.bed.lookup(pixel).map_err(|refusal| map.refused(refusal, asked()))?;
+    let refused = |refusal| map.refused(refusal, format!("column {column}, row {row}, on a bed of {}", map.extent()));
+    let Found { account, block } = map.bed.lookup(pixel).map_err(refused)?;
+    let begins = |number| mils::text(map.bed.order(), number).map_err(refused);
+    let (west, north) = (begins(column)?, begins(row)?);
     let (who, what) = match account {
         Account::NOBODY => ("nobody's".to_owned(), "free block"),
         Account(number) => (format!("account {number}, {}", class(account)), "tile"),
     };
-    print(&format!("column {column}, row {row}: {who}\n  {what}: {}\n", described(block)))
+    let block = described(block);
+    print(&format!("column {column}, row {row}: {who}\n  {what}: {block}\n  in mils: from {west}, {north}\n"))
 }
 
 fn described(block: Block) -> String {

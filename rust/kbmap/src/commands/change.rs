@@ -1,19 +1,20 @@
 //! `claim` and `release`: a block changes hands; `preview`: what that would come to.
 
-use super::{apart, tell};
-use crate::args::{Claim, Corner};
+use super::{apart, pixel, tell};
+use crate::args::{Claim, Corner, Place};
 use crate::failure::Failure;
 use crate::input::Source;
 use crate::lock::{same_file, Locked};
 use crate::map::{self, Map};
 use crate::output::{print, Target, Writing};
 use crate::words::{class, count, span};
-use kingletbed::{raw, Account, Block, Refusal};
+use kingletbed::{raw, Account, Block, Pixel, Refusal};
 use std::collections::BTreeMap;
 
 /// Tells what a claim would do, and does nothing.
-pub fn preview(file: Source, claim: &Claim) -> Result<(), Failure> {
+pub fn preview(file: Source, claim: &Claim<Place>) -> Result<(), Failure> {
     let map = Map::open(file)?;
+    let claim = &placed(&map, claim)?;
     let foreseen = wanted(&map, claim).and_then(|(block, account)| {
         let after = map.bed.preview(block, account)?;
         Ok((block, account, after, held(&map, block)?))
@@ -25,7 +26,7 @@ pub fn preview(file: Source, claim: &Claim) -> Result<(), Failure> {
 }
 
 /// Gives a block to an account, or to nobody, and writes the changed map.
-pub fn claim(file: Source, out: Option<Target>, claim: &Claim) -> Result<(), Failure> {
+pub fn claim(file: Source, out: Option<Target>, claim: &Claim<Place>) -> Result<(), Failure> {
     let out = match out {
         Some(out) => out,
         None => itself(&file)?,
@@ -35,6 +36,7 @@ pub fn claim(file: Source, out: Option<Target>, claim: &Claim) -> Result<(), Fai
         Some(locked) => Map::of(file.clone(), file.read_locked(locked)?)?,
         None => Map::open(file)?,
     };
+    let claim = &placed(&map, claim)?;
     let before = map.bed.words().len();
     let changed = change(&mut map, claim).and_then(|done| Ok((done, map::file_of(&map.bed)?)));
     let ((block, account, held), file) = changed.map_err(|refusal| map.refused(refusal, asked(claim, &map)))?;
@@ -80,8 +82,17 @@ fn whose(account: Account) -> String {
     }
 }
 
+/// A claim with the pixel that its place is.
+fn placed(map: &Map, claim: &Claim<Place>) -> Result<Claim<Pixel>, Failure> {
+    let corner = match &claim.corner {
+        Corner::Morton(corner) => Corner::Morton(*corner),
+        Corner::In(place) => Corner::In(pixel(map, place)?),
+    };
+    Ok(Claim { corner, size: claim.size, account: claim.account })
+}
+
 /// The block, and its new account.
-fn wanted(map: &Map, claim: &Claim) -> Result<(Block, Account), Refusal> {
+fn wanted(map: &Map, claim: &Claim<Pixel>) -> Result<(Block, Account), Refusal> {
     let block = match claim.corner {
         Corner::Morton(corner) => Block { corner, size: claim.size },
         Corner::In(pixel) => Block::around(map.bed.order(), pixel, claim.size)?,
@@ -92,7 +103,7 @@ fn wanted(map: &Map, claim: &Claim) -> Result<(Block, Account), Refusal> {
 }
 
 /// The block, its new account, and what the block held before.
-fn change(map: &mut Map, claim: &Claim) -> Result<(Block, Account, String), Refusal> {
+fn change(map: &mut Map, claim: &Claim<Pixel>) -> Result<(Block, Account, String), Refusal> {
     let (block, account) = wanted(map, claim)?;
     let held = held(map, block);
     match claim.account {
@@ -122,7 +133,7 @@ fn held(map: &Map, block: Block) -> Result<String, Refusal> {
 }
 
 /// What was refused.
-fn asked(claim: &Claim, map: &Map) -> String {
+fn asked(claim: &Claim<Pixel>, map: &Map) -> String {
     let block = match claim.corner {
         Corner::Morton(corner) => format!("corner {corner}"),
         Corner::In(pixel) => format!("the block around column {}, row {}", pixel.column, pixel.row),

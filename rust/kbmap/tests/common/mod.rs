@@ -34,6 +34,16 @@ impl Answer {
     }
 }
 
+/// The answer of a command that is done, and says so.
+pub fn ok(text: &str) -> Answer {
+    Answer { status: 0, out: text.as_bytes().to_vec(), err: String::new() }
+}
+
+/// The answer of one that is refused.
+pub fn refused(err: &str) -> Answer {
+    Answer { status: 1, out: Vec::new(), err: err.to_owned() }
+}
+
 /// A directory that goes with the test.
 pub struct Scratch {
     pub path: PathBuf,
