@@ -2,8 +2,8 @@
 
        bench/run [LOWEST ORDER [HIGHEST ORDER]]        6 and 10 unless given
 
-   No other way to build a list, to combine two, to name a block, to write and read a file or a position in mils is timed
-   in its own table before it has given what the library gives. */
+   No other way to build a list, to combine two, to name a block, to write and read a file or a position in mils is
+   timed in its own table before it has given what the library gives. */
 #include "bench.h"
 #include "builds.h"
 #include "stack.h"

@@ -22,10 +22,11 @@
               scanned, in both kinds.
      free     is ground that is nobody's and scanned. Where a list has no tile, the ground may also be unscanned: then
               nothing is known of it.
-     mil      a thousandth of an inch. A position in mils says where along the columns, or along the rows, something
-              lies. Its text is one to five digits, a point and two digits, with no needless leading zero: 0.45 or
-              123.45, not .45, 00.45 or 1.5. In hundredths of a mil it is a number h, 45 or 12345. A pixel is 400
-              micrometres wide and an inch 25,400, so that h lies in column or row floor(h * 127 / 200000).
+     mil      a thousandth of an inch. A position in mils is a distance from the bed's west edge, which leads to a
+              column, or from its north edge, which leads to a row. Its text is one to five digits, a point and two
+              digits, with no needless leading zero: 0.45 or 123.45, not .45, 00.45 or 1.5. In hundredths of a mil it
+              is a number h, 45 or 12345. A pixel is 400 micrometres wide and an inch 25,400, so that h lies in column
+              or row floor(h * 127 / 200000).
 
    Calling
      Nothing is allocated and nothing is kept between calls: a call works on its arguments alone, so calls on separate
@@ -187,7 +188,8 @@ KB_MUST_USE uint32_t kb_tile_size(uint32_t word);
 KB_MUST_USE uint8_t kb_tile_account(uint32_t word);
 
 /* ---- Positions in mils ----
-   These calls go by one coordinate, a column or a row alike, and name it the pixel. A point of the bed takes two. */
+   These calls go by one coordinate, a column or a row alike, and name it the pixel. A place on the bed takes two calls,
+   one for its column and one for its row. */
 
 /* The column or row of a position. The text is its `text_length` bytes: a closing 0, a line feed or a blank that is
    counted in makes it no position. So a C string goes as (const uint8_t *)string, strlen(string), not with its sizeof.
@@ -204,8 +206,8 @@ KB_MUST_USE kb_mils_h_answer kb_mils_h(uint32_t order, uint32_t pixel);
 
 /* The text of the position that kb_mils_h answers, as kb_mils_pixel takes it.
      refuses   KB_ORDER_TOO_LARGE, KB_POINT_OUTSIDE, KB_BYTES_TOO_FEW
-     answers   the bytes written, 4 to KB_MILS_TEXT_MOST. No closing 0 is written: print them by "%.*s", or lend one
-               byte less than you have and put the 0 at `length` yourself.
+     answers   the bytes written, 4 to KB_MILS_TEXT_MOST. No closing 0 is written: print them by "%.*s", or have
+               KB_MILS_TEXT_MOST + 1 bytes, lend KB_MILS_TEXT_MOST of them, and put the 0 at `length` yourself.
      storage   accepted, the first bytes hold the text and those past it are as they were; refused, all are */
 KB_MUST_USE kb_mils_text_answer kb_mils_text(uint32_t order, uint32_t pixel, uint8_t *text, size_t text_length);
 

@@ -1,7 +1,9 @@
 //! Positions in mils, thousandths of an inch, as the lab's older layout tool has them in its board files: one to five
-//! digits, a point and two digits, with no needless leading zero. The calls here go by one coordinate on a bed of an
-//! order, a column or a row alike, and name it the pixel; [`Pixel::at_mils`](crate::Pixel::at_mils) takes both. A pixel
-//! is 400 micrometres wide and an inch is 25,400: h hundredths of a mil lie in pixel h * 127 / 200,000, rounded down.
+//! digits, a point and two digits, with no needless leading zero. A position is a distance from the bed's west edge,
+//! which leads to a column, or from its north edge, which leads to a row. The calls here go by one coordinate on a bed
+//! of an order, a column or a row alike, and name it the pixel; [`Pixel::at_mils`](crate::Pixel::at_mils) takes both. A
+//! pixel is 400 micrometres wide and an inch is 25,400: h hundredths of a mil lie in pixel h * 127 / 200,000, rounded
+//! down.
 //!
 //! ```
 //! use kingletbed::mils;

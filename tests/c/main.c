@@ -16,13 +16,7 @@ int main(void)
     test_numbers();
     test_limits();
     test_texts();
-    test_mils_texts();
-    test_mils_lengths();
-    test_mils_bytes();
-    test_mils_positions();
-    test_mils_back();
-    test_mils_lent();
-    test_mils_refusals();
+    test_mils();
     test_empty();
     test_fresh();
     test_feed();

@@ -58,7 +58,7 @@ static int as_expected(uint32_t order, const uint8_t *text, size_t length)
 }
 
 /* The lines of document 02, texts of the form and others. */
-void test_mils_texts(void)
+static void mils_texts(void)
 {
     static const char *const wrong[] = {
         "", ".", "0", "1", "0.", ".0", "0.4", ".45", ".450", "0.456", "45", "0045", "123456", "00.45", "00.00", "01.00",
@@ -84,7 +84,7 @@ void test_mils_texts(void)
 }
 
 /* A closing 0 that is counted in, or a length that cuts the text: the text is its bytes, as many as the length says. */
-void test_mils_lengths(void)
+static void mils_lengths(void)
 {
     static const uint8_t text[9] = "16125.98";
     static uint8_t many[4096];
@@ -111,7 +111,7 @@ void test_mils_lengths(void)
 }
 
 /* Any byte at any place of a text of any length, and any few bytes at all. */
-void test_mils_bytes(void)
+static void mils_bytes(void)
 {
     static const char *const texts[] = {"", "0", "0.", ".45", "0.45", "9.99", "10.00", "123.45", "1007.87", "1007.88",
                                         "16125.98", "16125.99", "99999.99", "012345.67", "123456.78"};
@@ -142,7 +142,7 @@ void test_mils_bytes(void)
 }
 
 /* Every position on the largest bed, and some off it. */
-void test_mils_positions(void)
+static void mils_positions(void)
 {
     uint8_t text[16];
     uint32_t pixel = 0;
@@ -165,7 +165,7 @@ static uint32_t smallest(uint32_t pixel)
 }
 
 /* Every pixel of every order there and back: its smallest h leads to it, and the h ahead to the pixel ahead. */
-void test_mils_back(void)
+static void mils_back(void)
 {
     uint8_t text[16], other[16];
     for (uint32_t order = 0; order <= KB_HIGHEST_ORDER; order++) {
@@ -195,13 +195,13 @@ void test_mils_back(void)
 }
 
 /* Any lent length, inside of other bytes: refused, none is touched; accepted, none past the text. */
-void test_mils_lent(void)
+static void mils_lent(void)
 {
-    uint8_t bytes[20], kept[20], text[16];
+    uint8_t bytes[40], kept[40], text[16];
     for (uint32_t pixel = 0; pixel < 1024; pixel++) {
         size_t length = put_h(smallest(pixel), text);
         CHECK(length >= 4 && length <= KB_MILS_TEXT_MOST);
-        for (size_t lent = 0; lent <= 9; lent++) {
+        for (size_t lent = 0; lent <= 30; lent++) {
             memset(bytes, 0xa5, sizeof bytes);
             memset(kept, 0xa5, sizeof kept);
             kb_mils_text_answer put = kb_mils_text(10, pixel, bytes + 5, lent);
@@ -217,7 +217,7 @@ void test_mils_lent(void)
 }
 
 /* The refusals of each call, in their order. */
-void test_mils_refusals(void)
+static void mils_refusals(void)
 {
     static const uint32_t high[] = {11, 12, 16, 31, 32, 33, 42, 63, 64, 266, 1u << 31, UINT32_MAX};
     uint8_t text[9], kept[9];
@@ -243,4 +243,15 @@ void test_mils_refusals(void)
         CHECK(kb_mils_text(order, 0, NULL, 0).number == KB_BYTES_TOO_FEW);
     }
     CHECK(memcmp(text, kept, sizeof text) == 0);
+}
+
+void test_mils(void)
+{
+    mils_texts();
+    mils_lengths();
+    mils_bytes();
+    mils_positions();
+    mils_back();
+    mils_lent();
+    mils_refusals();
 }

@@ -1,12 +1,12 @@
 -- The checks of what a call is handed besides its map, one by one (document 01, "Refusals by the place of the check");
 -- the calls compose them; `blockIn` and `isAccount` stand with the plain bed. Definitions only.
---     orderCheck n       1, the order of a call that is handed no map
---     pointIn n c r      column c and row r are below 2 ^ n
---     pointCheck n c r   31, the point asked
---     coordinateCheck n p   31, the column or the row alone
---     blockCheck n c k   32, the block asked
---     askerCheck p       34, the asking account
---     givenCheck a       24, the account given
+--     orderCheck n           1, the order of a call that is handed no map
+--     pointIn n c r          column c and row r are below 2 ^ n
+--     pointCheck n c r       31, the point asked
+--     coordinateCheck n p    31, the column or the row asked alone
+--     blockCheck n c k       32, the block asked
+--     askerCheck p           34, the asking account
+--     givenCheck a           24, the account given
 use mathlib.Core.Bool.{Bool, _&&_}
 use Prim.Native.Nat.{ℕ, _^_}
 use lib.Dec.{leb, ltb}

@@ -1,4 +1,4 @@
--- Numbers in decimal, and lines of numbers.
+-- Numbers in decimal, lines of numbers, and digits read as a number.
 pub mod Decimal
 pub mod Lines
 pub mod Value

@@ -1,4 +1,5 @@
--- What is promised of positions in mils (document 02, request 6), for every order, text and pixel. Definitions only.
+-- What is promised of positions in mils (document 02, request 6), for every order, text and pixel, which is a column or
+-- a row here. Definitions only.
 --     Lies h p        h lies in the pixel p, by the floor's two inequalities
 --     Floors          the pixel of h is the one that it lies in
 --     Ceilings        the smallest h of a pixel by its two, and no other number has them
@@ -6,10 +7,11 @@
 --     Fits            the products of the two ways stay below 2 ^ 32
 --     Forms           the test of the form is the form, and a text names the number that its digits make (`Read`)
 --     Texts           the texts of the form are those of the numbers below the limit, one for each
---     Positions       what every text is answered: the pixel in which it lies, 53 off the bed or of another form (`Found`)
---     ThereAndBack    the way back from a pixel on the bed: the smallest h, whose text leads to the pixel again (`Back`)
---     Alike           on any input the way back as text is refused where the number is, or has too few bytes for the text
---                     of that number, or puts it and touches no byte behind it (`PutAlike`)
+--     Positions       what every text is answered: the pixel in which it lies, 53 off the bed or of another form
+--                     (`Found`)
+--     ThereAndBack    the way back from a pixel on the bed: the smallest h, whose text leads to it again (`Back`)
+--     Alike           on any input the way back as text is refused where the number is, or has too few bytes for the
+--                     text of that number, or puts it and touches no byte behind it (`PutAlike`)
 --     Refusals        1 for an order above the highest, 31 for a pixel off the bed
 use mathlib.Core.Path.{_≡_}
 use mathlib.Core.Bool.{true}

@@ -38,6 +38,9 @@ fn apart(file: &Source, out: &Target) -> Result<(), Failure> {
     }
 }
 
+/// What a position in mils is, in words.
+const FORM: &str = "a position is one to five digits, a point and two digits, with no needless leading zero, as 123.45";
+
 /// The pixel of a place on a map's bed. Numbers are taken as they are: whoever asks for the pixel checks them.
 fn pixel(map: &Map, place: &Place) -> Result<Pixel, Failure> {
     let order = map.bed.order();
@@ -45,7 +48,7 @@ fn pixel(map: &Map, place: &Place) -> Result<Pixel, Failure> {
         Coordinate::Number(number) => Ok(*number),
         Coordinate::Mils(text) => mils::pixel(order, text).map_err(|refusal| {
             let position = visible(&String::from_utf8_lossy(text));
-            map.refused(refusal, format!("{what} {position}, on a bed of order {order}"))
+            map.refused(refusal, format!("{what} {position}, on a bed of {}\n  {FORM}", map.extent()))
         }),
     };
     Ok(Pixel { column: number("COLUMN", &place.column)?, row: number("ROW", &place.row)? })

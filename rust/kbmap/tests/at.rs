@@ -49,7 +49,7 @@ fn at_every_pixel() {
     }
 }
 
-/// The last column and row of a bed end with 16125.98, and with 62.99; one of them may be given as a number.
+/// The last column ends with 62.99 on bed M, with 16125.98 on the largest bed. One of column and row may be a number.
 #[test]
 fn at_in_mils() {
     let scratch = Scratch::with_bed();
@@ -66,24 +66,25 @@ fn at_in_mils() {
 
 fn invalid(file: &str, detail: &str) -> Answer {
     let sentence = "the text is no position in mils, or the position is off the bed";
-    refused(&format!("kbmap: {file}: refused, 53 POSITION_INVALID: {sentence}\n  {detail}\n"))
+    let form = "a position is one to five digits, a point and two digits, with no needless leading zero, as 123.45";
+    refused(&format!("kbmap: {file}: refused, 53 POSITION_INVALID: {sentence}\n  {detail}\n  {form}\n"))
 }
 
 #[test]
 fn at_refuses_positions() {
     let scratch = Scratch::with_bed();
     scratch.put("large.map", &[10, 0, 0, 0, 0, 0]);
-    let off = invalid("large.map", "COLUMN 16125.99, on a bed of order 10");
+    let off = invalid("large.map", "COLUMN 16125.99, on a bed of 1024 by 1024 pixels");
     assert_eq!(scratch.kbmap("at large.map 16125.99 0"), off);
-    let column = |word: &str| invalid("bed.map", &format!("COLUMN {word}, on a bed of order 2"));
+    let column = |word: &str| invalid("bed.map", &format!("COLUMN {word}, on a bed of 4 by 4 pixels"));
     for word in ["63.00", "99999.99", ".45", "00.45", "01.00", "1.0", "1.000", "1.", ".", "+1.00", "1,00.00"] {
         assert_eq!(scratch.kbmap(&format!("at bed.map {word} 0")), column(word));
     }
     assert_eq!(scratch.kbmap("at bed.map -- -1.00 0"), column("-1.00"));
-    assert_eq!(scratch.kbmap("at bed.map 0.00 63.00"), invalid("bed.map", "ROW 63.00, on a bed of order 2"));
+    assert_eq!(scratch.kbmap("at bed.map 0.00 63.00"), invalid("bed.map", "ROW 63.00, on a bed of 4 by 4 pixels"));
     // The column is looked at first, and a position ahead of a pixel's number.
     assert_eq!(scratch.kbmap("at bed.map 63.00 63.00"), column("63.00"));
-    assert_eq!(scratch.kbmap("at bed.map 4 63.00"), invalid("bed.map", "ROW 63.00, on a bed of order 2"));
+    assert_eq!(scratch.kbmap("at bed.map 4 63.00"), invalid("bed.map", "ROW 63.00, on a bed of 4 by 4 pixels"));
     let outside = scratch.kbmap("at bed.map 4 0.00").err;
     assert!(outside.starts_with("kbmap: bed.map: refused, 31 POINT_OUTSIDE: "), "{outside}");
     // A file that is no map is told before anything that is asked of it.
@@ -91,7 +92,7 @@ fn at_refuses_positions() {
     assert!(cut.status == 1 && cut.err.contains("refused, 41 "), "{}", cut.err);
 }
 
-/// What stands on a line by itself, or is no text: it is refused, and shown so that it does no harm.
+/// Line feeds, blanks, and bytes that are no text: they are refused, and shown so that they do no harm.
 #[cfg(unix)]
 #[test]
 fn odd_positions() {
@@ -111,7 +112,7 @@ fn odd_positions() {
         (b"\xd9\xa1.00", "\u{661}.00"),
     ];
     for (word, shown) in cases {
-        let detail = |what| format!("{what} {shown}, on a bed of order 2");
+        let detail = |what| format!("{what} {shown}, on a bed of 4 by 4 pixels");
         assert_eq!(call(&[b"at", b"bed.map", word, b"0"]), invalid("bed.map", &detail("COLUMN")));
         let corner = [b"0,", word].concat();
         assert_eq!(call(&[b"release", b"bed.map", &corner, b"0"]), invalid("bed.map", &detail("ROW")));
@@ -153,7 +154,7 @@ fn claims_refuse_positions() {
         ("1.00,2.00,3.00", "ROW 2.00,3.00"),
         ("9,.45", "ROW .45"),
     ] {
-        let refused = invalid("bed.map", &format!("{detail}, on a bed of order 2"));
+        let refused = invalid("bed.map", &format!("{detail}, on a bed of 4 by 4 pixels"));
         // The position comes first: the size is no block's and the account above 63.
         for line in [format!("claim bed.map {corner} 3 64"), format!("preview bed.map {corner} 3 256")] {
             assert_eq!(scratch.kbmap(&line), refused, "{line}");

@@ -165,7 +165,7 @@ pub struct Point {
 pub struct MilsPixel {
     /// 0, or the number of the first check broken.
     pub number: u32,
-    /// The pixel, along a row or a column.
+    /// The column or the row.
     pub pixel: u32,
 }
 

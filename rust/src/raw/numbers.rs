@@ -101,7 +101,7 @@ pub fn tile_account(word: u32) -> u8 {
     unsafe { kb_tile_account(word) }
 }
 
-/// `kb_mils_pixel`. The pixel of a position in mils, along a row or a column; the text is all bytes of the slice.
+/// `kb_mils_pixel`. The column or row of a position in mils; the text is all bytes of the slice.
 ///
 /// ```
 /// use kingletbed::raw;
@@ -114,7 +114,7 @@ pub fn mils_pixel(order: u32, text: &[u8]) -> MilsPixel {
     unsafe { kb_mils_pixel(order, text.as_ptr(), text.len()) }
 }
 
-/// `kb_mils_h`. The smallest position of a pixel, in hundredths of a mil.
+/// `kb_mils_h`. The smallest position of a column or row, in hundredths of a mil.
 ///
 /// ```
 /// use kingletbed::raw;
@@ -126,8 +126,8 @@ pub fn mils_h(order: u32, pixel: u32) -> MilsH {
     unsafe { kb_mils_h(order, pixel) }
 }
 
-/// `kb_mils_text`. Puts the text of the smallest position of a pixel, 4 to 8 bytes, at the front of those lent, and
-/// leaves the others.
+/// `kb_mils_text`. Puts the text of the smallest position of a column or row, 4 to 8 bytes, at the front of those lent,
+/// and leaves the others.
 ///
 /// ```
 /// use kingletbed::raw;

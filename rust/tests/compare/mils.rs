@@ -43,7 +43,7 @@ impl Count {
         (number, after[..length].to_vec())
     }
 
-    /// The wrapper's pixel of two texts: the column is looked at first.
+    /// The wrapper's pixel of two texts.
     fn at_mils(&mut self, order: u32, column: &[u8], row: &[u8]) {
         let (one, two) = (plain::pixel(order, column), plain::pixel(order, row));
         let number = if one.0 != 0 { one.0 } else { two.0 };

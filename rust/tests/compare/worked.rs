@@ -1,5 +1,5 @@
 //! The worked lines of the scope paper, those that are proved as well, and those of lookups, previews, unfinished scans
-//! and positions. The numbers are the papers' or computed by the checker, not the plain implementation's.
+//! and positions. The numbers are the papers', computed by the checker or by hand, not the plain implementation's.
 
 use crate::living::Living;
 use crate::pair::Count;
