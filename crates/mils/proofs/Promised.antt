@@ -71,13 +71,18 @@ positions n text o = record {
   other = λ f. sym (pixelOf-formless n text (order-inside n o) (sym (not-formed text (λ g. f (formed-form text g)))));
 }
 
+module _ (n p : ℕ) where
+  number : hundredthsOf n p .number ≡ pixelAsked n p
+  unfolding hundredthsOf
+  number = unless-number (λ (x : Hundredths). x .number) (pixelAsked n p) (λ x. refl) refl
+
+  found : pixelAsked n p ≡ accepted → hundredthsOf n p ≡ hundredthsAnswer accepted (smallestIn p)
+  found e = sym (hundredthsOf-found n p _ _ refl e refl)
+
 module _ (n p : ℕ) (o : n ≤ highestOrder) (q : p < 2 ^ n) where
   asked : pixelAsked n p ≡ accepted
   unfolding pixelAsked
   asked = else-on _ _ (order-inside n o) ∙ sym (coordinate-inside n p q)
-
-  found : hundredthsOf n p ≡ hundredthsAnswer accepted (smallestIn p)
-  found = sym (hundredthsOf-found n p _ _ refl asked refl)
 
   again : pixelOf n (positionText (smallestIn p)) ≡ pixelAnswer accepted p
   again =
@@ -88,7 +93,7 @@ module _ (n p : ℕ) (o : n ≤ highestOrder) (q : p < 2 ^ n) where
 pub there-and-back : ThereAndBack
 unfolding ThereAndBack
 there-and-back n p o q =
-    let f = found n p o q in
+    let f = found n p (asked n p o q) in
     let t = text-formed (smallestIn p) (smallest-limit n p o q) in
     record {
       accepts = rw f refl;
@@ -98,31 +103,22 @@ there-and-back n p o q =
       bytes = rw f (omega (arith, t .short), omega (arith, t .long));
     }
 
-module _ (n p : ℕ) (out : List ℕ) where
-  number : hundredthsOf n p .number ≡ pixelAsked n p
-  unfolding hundredthsOf
-  number = unless-number (λ (x : Hundredths). x .number) (pixelAsked n p) (λ x. refl) refl
-
-  module _ (e : pixelAsked n p ≡ accepted) where
-    there : hundredthsOf n p ≡ hundredthsAnswer accepted (smallestIn p)
-    there = sym (hundredthsOf-found n p _ _ refl e refl)
-
-    puts : length (positionText (smallestIn p)) ≤ length out → textOf n p out
-        ≡ textAnswer accepted (length (positionText (smallestIn p))) (positionText (smallestIn p) ++ drop (length (positionText (smallestIn p))) out)
-    unfolding textOf textAsked
-    puts l =
-        unless-on {A = After PutText} (textAsked n p out) _ _
-        (else-on (pixelAsked n p) _ e ∙ must-on _ _ (test-leb (length (positionText (smallestIn p))) (length out)) l)
+puts : (n p : ℕ) (out : List ℕ) → pixelAsked n p ≡ accepted → length (positionText (smallestIn p)) ≤ length out → textOf n p out
+    ≡ textAnswer accepted (length (positionText (smallestIn p))) (positionText (smallestIn p) ++ drop (length (positionText (smallestIn p))) out)
+unfolding textOf textAsked
+puts n p out e l =
+    unless-on {A = After PutText} (textAsked n p out) _ _
+    (else-on (pixelAsked n p) _ e ∙ must-on _ _ (test-leb (length (positionText (smallestIn p))) (length out)) l)
 
 pub alike : Alike
 unfolding Alike
 alike n p out =
     let s = positionText (smallestIn p) in
-    let e = number n p out in
+    let e = number n p in
     record {
       refused = λ f. sym (textOf-refused n p out e f);
-      few = λ a. rw (there n p out (sym e ∙ a)) (λ l. sym (textOf-few n p out refl (sym e ∙ a) refl refl l));
-      put = λ a. rw (there n p out (sym e ∙ a)) (λ l. rw (puts n p out (sym e ∙ a) l)
+      few = λ a. rw (found n p (sym e ∙ a)) (λ l. sym (textOf-few n p out refl (sym e ∙ a) refl refl l));
+      put = λ a. rw (found n p (sym e ∙ a)) (λ l. rw (puts n p out (sym e ∙ a) l)
           (refl, take-append-seam s (drop (length s) out), drop-append-seam s (drop (length s) out)));
     }
 
