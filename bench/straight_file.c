@@ -47,23 +47,30 @@ kb_write_answer straight_write(uint32_t kind, uint32_t order, uint32_t pixels, s
     return answer;
 }
 
-/* The roster, from its count on, against the totals of the tiles. */
+/* The roster, from its count on, against the totals of the tiles: one pass over the entries, by rising account. */
 static uint32_t roster(const uint8_t *at, size_t left, uint32_t *totals)
 {
-    if (left < 1 || (left - 1) / 5 < at[0])
+    if (left < 1)
         return KB_FILE_CUT_SHORT;
-    if (left - 1 > (size_t)at[0] * 5)
-        return KB_TRAILING_BYTES;
-    for (int i = 0; i < at[0]; i++) {
-        const uint8_t *entry = at + 1 + 5 * i;
+    const uint8_t *entry = at + 1;
+    int ahead = -1, wrong = 0;
+    left--;
+    for (int i = 0; i < at[0]; i++, entry += 5, left -= 5) {
+        if (left < 5)
+            return KB_FILE_CUT_SHORT;
+        if (entry[0] <= ahead)
+            return KB_ROSTER_UNSORTED;
+        ahead = entry[0];
         if (entry[0] > KB_HIGHEST_ACCOUNT || totals[entry[0]] == 0 || totals[entry[0]] != get(entry + 1))
-            return KB_ROSTER_WRONG;
-        totals[entry[0]] = 0;
+            wrong = 1;
+        else
+            totals[entry[0]] = 0;
     }
+    if (left > 0)
+        return KB_TRAILING_BYTES;
     for (int a = 1; a <= KB_HIGHEST_ACCOUNT; a++)
-        if (totals[a])
-            return KB_ROSTER_WRONG;
-    return 0;
+        wrong |= totals[a] > 0;
+    return wrong ? KB_ROSTER_WRONG : 0;
 }
 
 kb_read_answer straight_read(const uint8_t *file, size_t file_length, uint32_t *slots, size_t slots_length)

@@ -61,7 +61,7 @@
 #include <stddef.h>
 #include <stdint.h>
 
-#define KB_VERSION "0.8.0"
+#define KB_VERSION "0.9.0"
 
 /* An answer that is dropped is a mistake, of which the compiler warns. */
 #if (defined(__cplusplus) && __cplusplus >= 201703L) || (defined(__STDC_VERSION__) && __STDC_VERSION__ >= 202311L)
@@ -133,12 +133,13 @@ enum kb_number {
 
     KB_FILE_CUT_SHORT = 41,     /* the bytes end before the item to be read */
     KB_TRAILING_BYTES = 42,     /* bytes follow the roster */
-    KB_ROSTER_WRONG = 43,       /* the roster does not have each account of the tiles once, with the pixels it covers */
+    KB_ROSTER_WRONG = 43,       /* the roster does not have just the accounts of the tiles, each with its pixels */
 
     KB_ORDERS_DIFFER = 51,      /* the two maps have different orders */
     KB_UNSCANNED = 52,          /* the point is unscanned, the block has an unscanned pixel, or the scan to be written
                                    is unfinished */
-    KB_POSITION_INVALID = 53    /* the text is no position in mils, or the position is off the bed */
+    KB_POSITION_INVALID = 53,   /* the text is no position in mils, or the position is off the bed */
+    KB_ROSTER_UNSORTED = 54     /* the account of a roster entry is not above that of the entry ahead of it */
 };
 
 /* The answers. kb_check and kb_decode answer the number alone, kb_tile_corner, kb_tile_size and kb_tile_account the
@@ -328,10 +329,11 @@ KB_MUST_USE kb_write_answer kb_write(uint32_t kind, uint32_t order, uint32_t pix
 
 /* Reads a file to a map, which is wholly scanned: its record is of the kind KB_ROWS, with the order and the tile count
    answered and 4^order pixels, which kb_extent has. Every account that has tiles must have one entry in the roster,
-   with the number of its pixels, and no other account may. The order of the entries does not matter.
+   with the number of its pixels, and no other account may; the entries must go by rising account, as kb_write has them.
      refuses   as the file goes: KB_FILE_CUT_SHORT wherever the bytes end before an item; KB_ORDER_TOO_LARGE;
-               KB_SLOTS_EXCEEDED for its tile count; KB_HIGH_BITS_SET to KB_SIBLINGS_UNMERGED at each word; after the
-               roster KB_TRAILING_BYTES, then KB_ROSTER_WRONG
+               KB_SLOTS_EXCEEDED for its tile count; KB_HIGH_BITS_SET to KB_SIBLINGS_UNMERGED at each word;
+               KB_ROSTER_UNSORTED at each roster entry, for a repeated account too; after the roster
+               KB_TRAILING_BYTES, then KB_ROSTER_WRONG
      answers   the order and the tile count
      storage   accepted, the slots hold the file's list, and 0 from its end on; refused, they are as they were */
 KB_MUST_USE kb_read_answer kb_read(const uint8_t *file, size_t file_length, uint32_t *slots, size_t slots_length);
@@ -565,6 +567,7 @@ KB_MUST_USE static inline const char *kb_refusal_text(uint32_t number)
     case KB_ORDERS_DIFFER: return "the two maps have different orders";
     case KB_UNSCANNED: return "the pixel, the block or the bed is not wholly scanned yet";
     case KB_POSITION_INVALID: return "the text is no position in mils, or the position is off the bed";
+    case KB_ROSTER_UNSORTED: return "the accounts in the file's roster do not rise from entry to entry";
     default: return "a number that this version does not know";
     }
 }

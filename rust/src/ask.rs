@@ -320,7 +320,8 @@ impl<S: AsRef<[u32]>> Bed<S> {
     }
 
     /// Writes the bed as a file and gives its length; [`file_room`](Bed::file_room) bytes are enough. Bytes behind the
-    /// file are not touched. A file is of a bed that is wholly scanned: an unfinished scan is refused.
+    /// file are not touched. Its roster lists the accounts on the bed by rising account. A file is of a bed that is
+    /// wholly scanned: an unfinished scan is refused.
     ///
     /// ```
     /// use kingletbed::{Bed, Kind, Refusal};

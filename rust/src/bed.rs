@@ -114,6 +114,8 @@ impl<S: AsRef<[u32]> + AsMut<[u32]>> Bed<S> {
     }
 
     /// Reads a file's list to the slots, and sets those behind it to 0. The bed is by rows, with every pixel scanned.
+    /// The file's roster must list the accounts on the bed and no others, each with the number of its pixels, by rising
+    /// account, as [`write`](Bed::write) does.
     ///
     /// ```
     /// use kingletbed::{Bed, Refusal};
@@ -125,6 +127,10 @@ impl<S: AsRef<[u32]> + AsMut<[u32]>> Bed<S> {
     /// let bed = Bed::read(&file, &mut slots)?;
     /// assert!(bed.is_scanned());
     /// assert_eq!(bed.slots(), [3, 0]);
+    ///
+    /// // order 1, two tiles of accounts 3 and 7, and entries for 7 and 3: they do not rise
+    /// let file = [1, 0, 0, 0, 2, 0, 0, 0, 3, 0, 0, 4, 7, 2, 7, 0, 0, 0, 1, 3, 0, 0, 0, 1];
+    /// assert_eq!(Bed::read(&file, [0; 4]), Err(Refusal::RosterUnsorted));
     /// # Ok::<(), kingletbed::Refusal>(())
     /// ```
     pub fn read(file: &[u8], mut slots: S) -> Result<Bed<S>, Refusal> {

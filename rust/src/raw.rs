@@ -263,6 +263,9 @@ pub fn write(kind: u32, order: u32, pixels: u32, tiles: usize, slots: &[u32], fi
 /// let mut slots = [7; 2];
 /// let reading = raw::read(&[0, 0, 0, 0, 1, 0, 0, 0, 3, 1, 3, 0, 0, 0, 1], &mut slots);
 /// assert_eq!((reading.order, reading.tiles, slots), (0, 1, [3, 0]));
+/// // The entry of account 3 a second time: its account is not above the one ahead of it.
+/// let twice = [0, 0, 0, 0, 1, 0, 0, 0, 3, 2, 3, 0, 0, 0, 1, 3, 0, 0, 0, 1];
+/// assert_eq!(raw::read(&twice, &mut slots).number, 54);
 /// ```
 #[must_use]
 pub fn read(file: &[u8], slots: &mut [u32]) -> Reading {

@@ -25,7 +25,7 @@ macro_rules! refusals {
             ///
             /// ```
             /// use kingletbed::Refusal;
-            /// assert_eq!(Refusal::ALL.len(), 24);
+            /// assert_eq!(Refusal::ALL.len(), 25);
             /// ```
             pub const ALL: &'static [Refusal] = &[$(Refusal::$name,)*];
 
@@ -83,6 +83,7 @@ refusals! {
     OrdersDiffer = 51, "the two maps have different orders";
     Unscanned = 52, "the pixel, the block or the bed is not wholly scanned yet";
     PositionInvalid = 53, "the text is no position in mils, or the position is off the bed";
+    RosterUnsorted = 54, "the accounts in the file's roster do not rise from entry to entry";
 }
 
 /// How many letters the header's spelling of a name has: one more for each capital but the first.
@@ -156,12 +157,12 @@ mod tests {
     #[test]
     fn outcomes() {
         assert_eq!(Refusal::outcome(0), Ok(()));
-        for number in 1..=54 {
+        for number in 1..=55 {
             let refusal = Refusal::outcome(number).expect_err("a refusal");
             assert!(refusal.number() <= number);
             assert_eq!(Refusal::from_number(number).unwrap_or(refusal), refusal);
         }
-        assert_eq!(Refusal::outcome(u32::MAX), Err(Refusal::PositionInvalid));
+        assert_eq!(Refusal::outcome(u32::MAX), Err(Refusal::RosterUnsorted));
     }
 
     #[test]

@@ -25,6 +25,7 @@ int main(void)
     test_accounts();
     test_wide();
     test_file();
+    test_roster();
     test_lookup();
     test_lookup_has();
     test_shown();

@@ -56,7 +56,7 @@ void test_limits(void)
 void test_texts(void)
 {
     static const uint32_t numbers[] = {0, 1, 2, 11, 12, 13, 14, 15, 16, 21, 22, 23, 24, 25, 26,
-                                       31, 32, 33, 34, 41, 42, 43, 51, 52, 53};
+                                       31, 32, 33, 34, 41, 42, 43, 51, 52, 53, 54};
     const char *unknown = "a number that this version does not know";
     size_t next = 0;
     for (uint32_t number = 0; number <= 70; number++) {
@@ -74,4 +74,5 @@ void test_texts(void)
     CHECK(strcmp(kb_refusal_text(51), "the two maps have different orders") == 0);
     CHECK(strcmp(kb_refusal_text(52), "the pixel, the block or the bed is not wholly scanned yet") == 0);
     CHECK(strcmp(kb_refusal_text(53), "the text is no position in mils, or the position is off the bed") == 0);
+    CHECK(strcmp(kb_refusal_text(54), "the accounts in the file's roster do not rise from entry to entry") == 0);
 }

@@ -204,6 +204,44 @@ void test_file(void)
     CHECK(kb_write(KB_ROWS, read.order, pixels, read.tiles, others, 4, file, 32).length == 32);
 }
 
+/* Rosters behind the tiles of bed M, each from its count on: entries that rise and entries that do not, with bytes
+   missing or left over. A refused one leaves the slots and the scan as they were. */
+void test_roster(void)
+{
+    static const struct { size_t length; uint8_t bytes[16]; uint32_t number; } rosters[] = {
+        {11, {2, 5, 0, 0, 0, 4, 9, 0, 0, 0, 6}, KB_ACCEPTED},
+        {11, {2, 9, 0, 0, 0, 6, 5, 0, 0, 0, 4}, KB_ROSTER_UNSORTED},
+        {11, {2, 5, 0, 0, 0, 4, 5, 0, 0, 0, 4}, KB_ROSTER_UNSORTED},
+        {16, {3, 5, 0, 0, 0, 4, 9, 0, 0, 0, 6, 9, 0, 0, 0, 6}, KB_ROSTER_UNSORTED},
+        {12, {2, 9, 0, 0, 0, 6, 5, 0, 0, 0, 4, 0}, KB_ROSTER_UNSORTED},
+        {11, {3, 9, 0, 0, 0, 6, 5, 0, 0, 0, 4}, KB_ROSTER_UNSORTED},
+        {11, {2, 9, 0, 0, 0, 7, 5, 0, 0, 0, 4}, KB_ROSTER_UNSORTED},
+        {10, {2, 9, 0, 0, 0, 6, 5, 0, 0, 0}, KB_FILE_CUT_SHORT},
+        {11, {1, 9, 0, 0, 0, 6, 5, 0, 0, 0, 4}, KB_TRAILING_BYTES},
+        {16, {3, 0, 0, 0, 0, 0, 5, 0, 0, 0, 4, 9, 0, 0, 0, 6}, KB_ROSTER_WRONG},
+        {16, {3, 5, 0, 0, 0, 4, 7, 0, 0, 0, 0, 9, 0, 0, 0, 6}, KB_ROSTER_WRONG},
+        {16, {3, 5, 0, 0, 0, 4, 9, 0, 0, 0, 6, 255, 0, 0, 0, 0}, KB_ROSTER_WRONG},
+        {6, {1, 9, 0, 0, 0, 6}, KB_ROSTER_WRONG},
+    };
+    uint32_t slots[8], others[5];
+    uint8_t file[21 + 16] = {0};
+    kb_scan scan = NO_SCAN;
+    scan_bed_m(&scan, slots, 8);
+    CHECK(kb_scan_write(&scan, file, sizeof file).length == 32);
+    CHECK(memcmp(file + 21, rosters[0].bytes, rosters[0].length) == 0);
+    for (size_t i = 0; i < sizeof rosters / sizeof *rosters; i++) {
+        kb_scan again = scan;
+        memset(others, 0xee, sizeof others);
+        memcpy(file + 21, rosters[i].bytes, rosters[i].length);
+        uint32_t number = kb_scan_read(&again, file, 21 + rosters[i].length, others, 5);
+        CHECK(number == rosters[i].number && same(&again, &scan) == (number != KB_ACCEPTED));
+        for (size_t slot = 0; slot < 5; slot++)
+            CHECK(others[slot] == (number == KB_ACCEPTED ? slots[slot] : 0xeeeeeeee));
+        kb_read_answer read = kb_read(file, 21 + rosters[i].length, others, 5);
+        CHECK(read.number == number && (number == KB_ACCEPTED || (read.order == 0 && read.tiles == 0)));
+    }
+}
+
 /* Whether two lookups answered the same. */
 static int alike(kb_lookup_answer one, kb_lookup_answer other)
 {

@@ -36,6 +36,7 @@ void test_preview(void);
 void test_accounts(void);
 void test_wide(void);
 void test_file(void);
+void test_roster(void);
 void test_lookup(void);
 void test_lookup_has(void);
 void test_shown(void);

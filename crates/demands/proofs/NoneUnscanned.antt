@@ -26,7 +26,7 @@ use Rattle.bed.proofs.PlaceLaws.{placeOf-pixelAt, placeOf-lt}
 use Rattle.bed.proofs.BedLaws.{pixelCheck-passed, claim-passed}
 use Rattle.quadtree.proofs.Shown.{paint-out}
 use Rattle.mapfile_bytes.specs.Items.{wordAt}
-use Rattle.mapfile_entries.specs.RosterCheck.{rosterCheck}
+use Rattle.mapfile_entries.specs.RosterCheck.{entriesCheck, rosterCheck}
 use Rattle.mapfile_read.specs.Reader.{tilesCheck, fileCheck, fileOrder, readBed}
 use Rattle.scan_check.specs.Opening.{opening}
 use Rattle.demands.specs.Calls.{Call, fresh, feed, claim, read, Answer, State, PlainStep, plainly, plainStep, plainFed, claimedBed, plainAnswers, plainLeft, Begins}
@@ -119,9 +119,14 @@ tiles-other n (suc t) seen bs p =
     (must-not _ _ _ (λ e. omega arith) (must-not _ _ _ (λ e. omega arith) (must-not _ _ _ (λ e. omega arith) (must-not _ _ _ (λ e. omega arith) (must-not _ _ _ (λ e. omega arith) (λ e. omega arith))))))
     (must-not _ _ _ (λ e. omega arith) (tiles-other n t (tileOf (wordAt bs p) ∷ seen) bs _)))
 
+entries-other : (q least : ℕ) (section : List ℕ) (p : ℕ) → Other (entriesCheck q least section p)
+unfolding entriesCheck
+entries-other zero least section p = λ e. omega arith
+entries-other (suc q) least section p = must-not _ _ _ (λ e. omega arith) (must-not _ _ _ (λ e. omega arith) (entries-other q _ section _))
+
 roster-other : (ts : List Tile) (section : List ℕ) → Other (rosterCheck ts section)
 unfolding rosterCheck
-roster-other ts section = must-not _ _ _ (λ e. omega arith) (must-not _ _ _ (λ e. omega arith) (must-not _ _ _ (λ e. omega arith) (must-not _ _ _ (λ e. omega arith) (λ e. omega arith))))
+roster-other ts section = must-not _ _ _ (λ e. omega arith) (else-not _ _ (entries-other _ 0 section _) (must-not _ _ _ (λ e. omega arith) (must-not _ _ _ (λ e. omega arith) (λ e. omega arith))))
 
 file-other : (m : ℕ) (bs : List ℕ) → Other (fileCheck m bs)
 unfolding fileCheck

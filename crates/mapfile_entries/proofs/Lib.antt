@@ -1,7 +1,7 @@
 -- Laws of the passes over the words of a file and over the entries of its roster.
---     Sums            sums over the words of a file and over the entries of a roster, turn by turn
---     EntriesInTurn   the entries in turn and the tiles in turn
---     EntrySet        the set of the accounts that have entries, entry by entry
+--     Summed          rising entries are the roster if they are right and together have the pixels of all tiles
+--     Sums            sums over the words of a file, turn by turn
+--     EntriesInTurn   the entries in turn
+pub mod Summed
 pub mod Sums
 pub mod EntriesInTurn
-pub mod EntrySet

@@ -1,19 +1,16 @@
--- Sums over the words of a file and over the entries of a roster, turn by turn: what is summed and what is left make the whole.
+-- Sums over the words of a file, turn by turn: what is summed and what is left make the whole.
 --     covered-start, -on, -end   the pixels of an account, by the words from p on
---     listed-start, -on, -end    the entries of an account, by the entries from p on
+--     area-start, -on, -end      the pixels of all tiles, by the words from p on
 use mathlib.Core.Path.{_≡_}
 use mathlib.Core.List.{List, map}
-use Prim.Native.Nat.{ℕ, suc, _+_, _-_, _^_, _≤_, _<_}
+use Prim.Native.Nat.{ℕ, suc, _+_, _-_, _^_, _<_}
 use native.Mathlib.Omega.{arith}
 use lib.Dec.{eqb}
-use lib.ListN.{getD}
 use Rattle.basics.specs.Choice.{if}
-use Rattle.basics.proofs.Tests.{test-eqb}
-use Rattle.basics.proofs.ChoiceLaws.{by-if}
 use Rattle.tile.specs.Tile.{tileOf}
 use Rattle.mapfile_bytes.specs.Items.{wordAt, wordsAt}
-use Rattle.mapfile_roster.specs.Roster.{covered, listed}
-use Rattle.mapfile_entries.specs.RosterCheck.{entriesAt}
+use Rattle.mapfile_roster.specs.Roster.{covered}
+use Rattle.mapfile_entries.specs.Pixels.{areaOf}
 
 module _ (a t : ℕ) (bs : List ℕ) where
   pub covered-start : 0 + covered a (map tileOf (wordsAt (t - 0) bs 5)) ≡ covered a (map tileOf (wordsAt t bs 5))
@@ -30,21 +27,18 @@ module _ (a t : ℕ) (bs : List ℕ) where
     unfolding covered wordsAt
     covered-end h = let s : t - i ≡ 0 = omega arith in omega (arith, rw s at e)
 
--- an entry counts once at most
-pub entry-once : (x y : ℕ) → if (eqb x y) 1 0 ≤ 1
-entry-once x y = by-if (λ (n : ℕ). n ≤ 1) (test-eqb x y) (λ e. omega arith) (λ e. omega arith)
+module _ (t : ℕ) (bs : List ℕ) where
+  pub area-start : 0 + areaOf (map tileOf (wordsAt (t - 0) bs 5)) ≡ areaOf (map tileOf (wordsAt t bs 5))
+  area-start = let s : t - 0 ≡ t = omega arith in rw s (omega arith)
 
-module _ (a q : ℕ) (rs : List ℕ) where
-  pub listed-start : 0 + listed a (entriesAt (q - 0) rs 1) ≡ listed a (entriesAt q rs 1)
-  listed-start = let s : q - 0 ≡ q = omega arith in rw s (omega arith)
+  module _ (i p sum : ℕ) {all : ℕ} (e : sum + areaOf (map tileOf (wordsAt (t - i) bs p)) ≡ all) where
+    pub area-on : (x k w : ℕ) → i < t → w ≡ wordAt bs p → k ≡ tileOf w .size → x ≡ 4 ^ k → sum + x + areaOf (map tileOf (wordsAt (t - (i + 1)) bs (p + 4))) ≡ all
+    unfolding areaOf wordsAt
+    area-on x k w h v ek ex =
+        let s : t - i ≡ suc (t - (i + 1)) = omega arith in
+        let y : x ≡ 4 ^ tileOf w .size = rw ek at ex in
+        omega (arith, rw (s, ← v) at e)
 
-  module _ (j p sum : ℕ) {all : ℕ} (e : sum + listed a (entriesAt (q - j) rs p) ≡ all) where
-    pub listed-on : (x : ℕ) → j < q → x ≡ if (eqb (getD rs p 0) a) 1 0 → sum + x + listed a (entriesAt (q - (j + 1)) rs (p + 5)) ≡ all
-    unfolding listed entriesAt
-    listed-on x h k =
-        let s : q - j ≡ suc (q - (j + 1)) = omega arith in
-        omega (arith, rw s at e)
-
-    pub listed-end : j ≡ q → sum ≡ all
-    unfolding listed entriesAt
-    listed-end h = let s : q - j ≡ 0 = omega arith in omega (arith, rw s at e)
+    pub area-end : i ≡ t → sum ≡ all
+    unfolding areaOf wordsAt
+    area-end h = let s : t - i ≡ 0 = omega arith in omega (arith, rw s at e)

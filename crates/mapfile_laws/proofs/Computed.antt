@@ -13,7 +13,7 @@ use Rattle.scan_check.specs.Scanned.{finishedCheck}
 use Rattle.decode.specs.Decode.{decodeCheck, decodeOf}
 use Rattle.mapfile_bytes.specs.Items.{wordAt, wordsAt}
 use Rattle.mapfile_roster.specs.Roster.{covered, rosterFrom, listed, entryGood, entriesGood, tilesListed, rosterGood}
-use Rattle.mapfile_entries.specs.RosterCheck.{entriesAt, rosterCheck}
+use Rattle.mapfile_entries.specs.RosterCheck.{entriesAt, entriesCheck, rosterCheck}
 use Rattle.mapfile_read.specs.Reader.{tilesCheck, fileCheck, readOf}
 use Rattle.mapfile_sections.specs.Sections.{wordsBytes, entriesBytes}
 use Rattle.mapfile_write.specs.Writer.{fileOf, readyCheck, writeCheck, writeOf}
@@ -21,7 +21,7 @@ use Rattle.mapfile_laws.specs.Totals.{occurs}
 use Rattle.mapfile_laws.specs.Worked.{fileM, TotalLines}
 
 pub total-lines : TotalLines
-unfolding if some tabulate must orElse unless morton column row wordOf tileOf tilesIn aligned accountAt follows lastOfFour ended soundCheck wordCheck wordsCheck listCheck placeOf pixelAt scanned rows coversUnscanned opening finishedCheck decodeCheck decodeOf wordAt wordsAt tilesCheck fileCheck readOf covered rosterFrom listed entryGood entriesGood tilesListed rosterGood entriesAt rosterCheck wordsBytes entriesBytes fileOf readyCheck writeCheck writeOf occurs fileM
+unfolding if some tabulate must orElse unless morton column row wordOf tileOf tilesIn aligned accountAt follows lastOfFour ended soundCheck wordCheck wordsCheck listCheck placeOf pixelAt scanned rows coversUnscanned opening finishedCheck decodeCheck decodeOf wordAt wordsAt tilesCheck fileCheck readOf covered rosterFrom listed entryGood entriesGood tilesListed rosterGood entriesAt entriesCheck rosterCheck wordsBytes entriesBytes fileOf readyCheck writeCheck writeOf occurs fileM
 total-lines = record {
   M-decoded = refl;
   M-written = refl;

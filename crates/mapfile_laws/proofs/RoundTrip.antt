@@ -2,7 +2,8 @@
 --     fileOf-entries    the entries of the file of a valid list are its roster
 --     fileOf-accepted   the reader accepts the file of a valid list where there are slots for it
 --     read-write        and leaves the list in the slots, with its order and its tile count
---     slots-accounts    the tiles of words in slots have accounts up to the highest
+--     tiles-accounts    the tiles of words have accounts up to the highest; slots-accounts, so have those of words in slots
+--     write-number      the writer's number is that of its checks
 --     write-passed      what is known past the writer's checks; written-file, what it then leaves
 --     read-written      the same of the two calls: what an accepted write left is read
 --     written-whole     and its record is the one written, but for the kind
@@ -41,7 +42,7 @@ use Rattle.mapfile_bytes.specs.Items.{wordAt, wordsAt}
 use Rattle.mapfile_bytes.proofs.ItemsLaws.{word-whole}
 use Rattle.mapfile_roster.specs.Roster.{Entry, rosterOf}
 use Rattle.mapfile_roster.proofs.CoveredLaws.{covered-fits}
-use Rattle.mapfile_roster.proofs.RosterLaws.{rosterOf-good, rosterOf-pixels}
+use Rattle.mapfile_roster.proofs.RosterLaws.{rosterOf-rising, rosterOf-good, rosterOf-pixels}
 use Rattle.mapfile_entries.specs.RosterCheck.{rosterCheck}
 use Rattle.mapfile_read.specs.Reader.{tilesCheck, fileOrder, fileCount, fileCheck, readOf}
 use Rattle.mapfile_read.proofs.ReaderLaws.{tilesCheck-words, readOf-accepted}
@@ -100,14 +101,14 @@ module _ (n : ℕ) (ts : List Tile) (o : n ≤ highestOrder) (v : Valid n ts) (a
   fileOf-accepted m c =
       accept m n (length ts) (fileOf n ts) (length (rosterOf ts) ∷ entriesBytes (rosterOf ts)) ts (omega (arith, fileOf-bytes n ts)) order-back o count-back c
       (tilesCheck-words n (length ts) [] (fileOf n ts) 5 (omega (arith, fileOf-bytes n ts)) words-pass) tiles-back rest-back
-      (roster-back ts (rosterOf ts) (rosterOf-good v a) entry-low)
+      (roster-back ts (rosterOf ts) (rosterOf-rising ts) (rosterOf-good v a) entry-low)
 
   pub read-write : (slots : List ℕ) → length ts ≤ length slots →
       readOf (fileOf n ts) slots ≡ record { answer = record { number = accepted; order = n; tiles = length ts }; storage = filled (length slots) ts }
   unfolding filled
   read-write slots c = readOf-accepted (fileOf n ts) slots (fileOf-accepted (length slots) c) ∙ rw (order-back, count-back, list-back)
 
-tiles-accounts : (ws : List ℕ) (t : Tile) → t ∈ map tileOf ws → t .account ≤ highestAccount
+pub tiles-accounts : (ws : List ℕ) (t : Tile) → t ∈ map tileOf ws → t .account ≤ highestAccount
 tiles-accounts (w ∷ ws) t (List·Memᴰ·head e) = rw e (tileOf-account w)
 tiles-accounts (w ∷ ws) t (List·Memᴰ·tail m) = tiles-accounts ws t m
 
@@ -144,7 +145,7 @@ read-written scan slots file others e c =
     rw (written-file scan slots file e)
     (read-write n (tilesIn t slots) (v .order) (v .valid) (slots-accounts t slots) others (omega arith) ∙ rw (l, filled-tilesIn (length others) t slots (v .count)))
 
-write-number : (scan : Scan) (slots file : List ℕ) → writeOf scan slots file .answer .number ≡ writeCheck scan slots file
+pub write-number : (scan : Scan) (slots file : List ℕ) → writeOf scan slots file .answer .number ≡ writeCheck scan slots file
 unfolding writeOf
 write-number scan slots file = unless-number (λ (x : After Written). x .answer .number) (writeCheck scan slots file) (λ r. refl) refl
 

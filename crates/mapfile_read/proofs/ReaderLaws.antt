@@ -2,8 +2,10 @@
 --     tilesCheck-words   words that are there are accepted just where the same words in slots are
 --     tilesCheck-valid   words that are accepted are there, and are a valid list
 --     Passed m bs x      a file of which all but the roster passes with m slots, and the roster section gives x
---     readOf-valid       a file that the reader accepts is so ..
---     readOf-wrong       .. and so is one that it refuses by 43
+--     fileCheck-passed   a file whose number no item ahead of the roster gives is so: ..
+--     readOf-valid       .. one that the reader accepts, ..
+--     readOf-wrong       .. and one that it refuses by 43
+--     fileCheck-roster   the number of a file of which all but the roster passes is the roster's
 --     readOf-accepted    what the reader then answers and leaves
 use mathlib.Core.Path.{_≡_, refl, sym, _∙_}
 use mathlib.Core.List.{List, [], _∷_, _++_, map}
@@ -62,25 +64,33 @@ pub record Passed (m : ℕ) (bs : List ℕ) (x : ℕ) : Type 0 where
   pub count : fileCount bs ≤ m
   pub length-words : length (fileWords bs) ≡ fileCount bs
   pub valid : Valid (fileOrder bs) (map tileOf (fileWords bs))
+  pub words : tilesCheck (fileOrder bs) (fileCount bs) [] bs 5 ≡ accepted
   pub room : 5 + 4 * fileCount bs ≤ length bs
   pub roster : rosterCheck (map tileOf (fileWords bs)) (drop (5 + 4 * fileCount bs) bs) ≡ x
 
-passed : (m : ℕ) (bs : List ℕ) {x : ℕ} → ((y : ℕ) → 0 < y → y ≤ fileCutShort → y ≡ x → ⊥) → fileCheck m bs ≡ x → Passed m bs x
+pub fileCheck-passed : (m : ℕ) (bs : List ℕ) {x : ℕ} → ((y : ℕ) → 0 < y → y ≤ fileCutShort → y ≡ x → ⊥) → fileCheck m bs ≡ x → Passed m bs x
 unfolding fileCheck
-passed m bs h e =
+fileCheck-passed m bs h e =
     let a = must-other (test-leb 1 (length bs)) (h fileCutShort (omega arith) (omega arith)) e in
     let b = must-other (test-leb (fileOrder bs) highestOrder) (h orderTooLarge (omega arith) (omega arith)) (a .1) in
     let c = must-other (test-leb 5 (length bs)) (h fileCutShort (omega arith) (omega arith)) (b .1) in
     let d = must-other (test-leb (fileCount bs) m) (h slotsExceeded (omega arith) (omega arith)) (c .1) in
     let f = else-other _ _ (λ g q. h _ g (tilesCheck-low (fileOrder bs) (fileCount bs) [] bs 5) q) (d .1) in
     let w = tilesCheck-valid (fileOrder bs) (b .0) (fileCount bs) bs (c .0) (f .0) in
-    record { order = b .0; count = d .0; length-words = wordsAt-length (fileCount bs) bs 5; valid = w .1; room = w .0; roster = f .1 }
+    record { order = b .0; count = d .0; length-words = wordsAt-length (fileCount bs) bs 5; valid = w .1; words = f .0; room = w .0; roster = f .1 }
 
 pub readOf-valid : (m : ℕ) (bs : List ℕ) → fileCheck m bs ≡ accepted → Passed m bs accepted
-readOf-valid m bs = passed m bs (λ y g l q. omega arith)
+readOf-valid m bs = fileCheck-passed m bs (λ y g l q. omega arith)
 
 pub readOf-wrong : (m : ℕ) (bs : List ℕ) → fileCheck m bs ≡ rosterWrong → Passed m bs rosterWrong
-readOf-wrong m bs = passed m bs (λ y g l q. omega arith)
+readOf-wrong m bs = fileCheck-passed m bs (λ y g l q. omega arith)
+
+pub fileCheck-roster : (m : ℕ) (bs : List ℕ) → 5 ≤ length bs → fileOrder bs ≤ highestOrder → fileCount bs ≤ m → tilesCheck (fileOrder bs) (fileCount bs) [] bs 5 ≡ accepted →
+    fileCheck m bs ≡ rosterCheck (map tileOf (fileWords bs)) (drop (5 + 4 * fileCount bs) bs)
+unfolding fileCheck
+fileCheck-roster m bs h o c w =
+    must-on fileCutShort _ (test-leb 1 (length bs)) (omega arith) ∙ must-on orderTooLarge _ (test-leb (fileOrder bs) highestOrder) o ∙ must-on fileCutShort _ (test-leb 5 (length bs)) h
+    ∙ must-on slotsExceeded _ (test-leb (fileCount bs) m) c ∙ else-on _ _ w
 
 pub readOf-accepted : (bs slots : List ℕ) → fileCheck (length slots) bs ≡ accepted →
     readOf bs slots ≡ record { answer = record { number = accepted; order = fileOrder bs; tiles = fileCount bs }; storage = fileWords bs ++ replicate (length slots - fileCount bs) 0 }

@@ -1,12 +1,11 @@
 -- Laws of sets of accounts.
 --     none-in                     a set without bits has no account
 --     with-one                    the bit of an account, joined to a set, adds the account
---     with-beyond                 a number above the highest account adds none
 --     Growing all set rest        the accounts that pass the test `all` are those in the set and those that pass the test `rest`
 --     growing-start, -on, -end    a set that grows account by account, from none until nothing is left
 --     count-bits                  somebody's accounts in a set are as many as its bits without nobody's
 --     count-fits                  and no more than the highest account
---     covered-head, listed-head   an account has tiles, or entries, by the first one or by those behind it
+--     covered-head                an account has tiles by the first one or by those behind it
 use mathlib.Core.Path.{_≡_, refl, ap, sym, _∙_}
 use mathlib.Core.Bool.{Bool, true, false, _||_}
 use mathlib.Core.List.{List, _∷_}
@@ -19,11 +18,11 @@ use lib.Bits.{bitOr, or-step, or-shr}
 use lib.Count.{ones, onesIn, ones-step}
 use lib.Dec.{ltb, eqb, eqb·zero-suc, eqb·suc-zero, eqb·suc-suc}
 use lib.Pow.{pow-pos, shl-exact, shr-shr}
-use borrow.Author.Tests.{lt-ltb, ne-eqb}
+use borrow.Author.Tests.{lt-ltb}
 use Rattle.basics.specs.Choice.{if}
 use Rattle.tile.specs.Tile.{Tile, highestAccount}
 use Rattle.quadtree.proofs.Alignment.{area-pos}
-use Rattle.mapfile_roster.specs.Roster.{covered, Entry, listed}
+use Rattle.mapfile_roster.specs.Roster.{covered}
 use Rattle.mapfile_roster.specs.Accounts.{has, SetOf, countFrom, count}
 use Rattle.mapfile_roster.specs.declared.Accounts.{Accounts}
 
@@ -56,9 +55,6 @@ with-test set account h a =
 
 pub with-one : (set : Accounts) (account : ℕ) → account ≤ highestAccount → SetOf (λ a. eqb account a || has set a) (record { bits = bitOr (set .bits) (1 * 2 ^ account % 2 ^ 64) })
 with-one set account h = record { test = λ a l. with-test set account h a }
-
-pub with-beyond : (set : Accounts) (x : ℕ) → highestAccount < x → SetOf (λ a. eqb x a || has set a) set
-with-beyond set x h = record { test = λ a l. rw (ne-eqb x a (λ e. omega arith)) }
 
 pub record Growing (all : ℕ → Bool) (set : Accounts) (rest : ℕ → Bool) : Type 0 where
   pub either : (a : ℕ) → a ≤ highestAccount → all a ≡ (has set a || rest a)
@@ -128,7 +124,3 @@ sum-test false x n h = let e : 0 + n ≡ n = omega arith in rw e
 pub covered-head : (t : Tile) (ts : List Tile) (a : ℕ) → ltb 0 (covered a (t ∷ ts)) ≡ (eqb (t .account) a || ltb 0 (covered a ts))
 unfolding covered
 covered-head t ts a = sum-test (eqb (t .account) a) _ (covered a ts) (omega (arith, area-pos (t .size)))
-
-pub listed-head : (e : Entry) (es : List Entry) (a : ℕ) → ltb 0 (listed a (e ∷ es)) ≡ (eqb (e .account) a || ltb 0 (listed a es))
-unfolding listed
-listed-head e es a = sum-test (eqb (e .account) a) 1 (listed a es) (omega arith)

@@ -1,6 +1,7 @@
--- Laws of the roster that the writer lists.
+-- Laws of the roster, by rising account.
 --     rosterFrom-yes        an account with tiles has its entry
 --     ByAccount lo es       the accounts of the entries es rise strictly, from lo on
+--     by-account-down       and so they do from any account below it
 --     rosterOf-rising       the roster is by rising account
 --     rosterOf-good         it is the roster of its tiles
 --     rosterOf-few          it has at most one entry for each account
@@ -31,7 +32,7 @@ pub data ByAccount : ℕ → List Entry → Type 0 where
   end : {lo : ℕ} → ByAccount lo []
   link : {lo : ℕ} {e : Entry} {es : List Entry} → lo ≤ e .account → ByAccount (suc (e .account)) es → ByAccount lo (e ∷ es)
 
-by-account-down : {lo hi : ℕ} {es : List Entry} → lo ≤ hi → ByAccount hi es → ByAccount lo es
+pub by-account-down : {lo hi : ℕ} {es : List Entry} → lo ≤ hi → ByAccount hi es → ByAccount lo es
 by-account-down {lo} h end = end {lo = lo}
 by-account-down {lo} {hi} h (link {e = e} l r) = link {lo = lo} {e = e} (omega arith) r
 

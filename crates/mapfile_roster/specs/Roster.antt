@@ -1,12 +1,11 @@
--- The roster of a map file (document 01, "The map file"): each account of the tiles once, with the pixels it covers.
--- Definitions only.
+-- The roster of a map file (document 01, "The map file"): each account of the tiles once, with the pixels it covers, by
+-- rising account (document 02, request 7). Definitions only.
 --     covered a ts         how many pixels the tiles of account a cover
 --     Entry                an account and its pixels
---     rosterOf ts          the roster as the writer lists it: by rising account
+--     rosterOf ts          the roster, by rising account
 --     listed a es          how many entries are the account's
 --     rosterGood ts es     each entry has an account of the tiles with its pixels, and is its only one; each tile's
---                          account has an entry.
---                          The order is open
+--                          account has an entry. Where the entries stand does not matter here: it is checked ahead
 use mathlib.Core.Bool.{Bool, true, _&&_}
 use mathlib.Core.List.{List, [], _∷_}
 use Prim.Native.Nat.{ℕ, zero, suc, _+_, _^_}

@@ -102,3 +102,7 @@ unscanned = 52
 -- a position in mils that is a text of another form, or off the bed
 abbrev pub positionInvalid : ℕ
 positionInvalid = 53
+
+-- a roster entry not above the one ahead of it
+abbrev pub rosterUnsorted : ℕ
+rosterUnsorted = 54

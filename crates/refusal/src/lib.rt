@@ -50,3 +50,5 @@ pub const ORDERS_DIFFER: u32 = 51;
 pub const UNSCANNED: u32 = 52;
 
 pub const POSITION_INVALID: u32 = 53;
+
+pub const ROSTER_UNSORTED: u32 = 54;

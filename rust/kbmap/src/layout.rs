@@ -1,7 +1,7 @@
 //! Where the items of a map file stand, by docs/RULES.md: the order in byte 0, the tile count in bytes 1 to 4, a word
-//! in each 4 bytes from byte 5 on, then the number of roster entries in 1 byte and each entry in 5. Whether a file is a
-//! map at all, the library says; this tells of one that is refused where the trouble stands, and of one that is
-//! accepted what its roster has.
+//! in each 4 bytes from byte 5 on, then the number of roster entries in 1 byte and each entry in 5, by rising account.
+//! Whether a file is a map at all, the library says; this tells of one that is refused where the trouble stands, and of
+//! one that is accepted what its roster has.
 
 use kingletbed::Account;
 

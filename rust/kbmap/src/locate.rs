@@ -17,6 +17,7 @@ pub fn locate(bytes: &[u8], refusal: Refusal) -> Vec<String> {
             let follow = if rest == 1 { "follows" } else { "follow" };
             vec![format!("byte {end}: the file should end here, and {} {follow}", words::count(rest, "byte"))]
         }
+        Refusal::RosterUnsorted => unsorted_roster(file),
         Refusal::RosterWrong => wrong_roster(file),
         _ => bad_word(file),
     }
@@ -87,23 +88,39 @@ fn totals(file: Layout) -> Vec<u32> {
     totals
 }
 
-/// What is wrong with the roster, entry by entry.
+/// "entry 1 (the first is 0), byte 27: account 9".
+fn entry_of(file: Layout, entry: usize, account: Account) -> String {
+    format!("entry {entry} (the first is 0), byte {}: account {}", file.entry_begins(entry), account.0)
+}
+
+/// The first entry whose account is not above that of the entry ahead of it.
+fn unsorted_roster(file: Layout) -> Vec<String> {
+    let accounts: Vec<Account> = file.roster().into_iter().map(|(account, _)| account).collect();
+    let Some(ahead) = accounts.windows(2).position(|pair| pair[1] <= pair[0]) else { return Vec::new() };
+    let (account, above) = (accounts[ahead + 1], accounts[ahead]);
+    let wrong = match account == above {
+        true => "again, as in".to_owned(),
+        false => format!("is below account {} of", above.0),
+    };
+    let (here, begins) = (entry_of(file, ahead + 1, account), file.entry_begins(ahead));
+    vec![
+        format!("{here} {wrong} entry {ahead}, byte {begins}"),
+        "the account of each entry must be above that of the entry ahead of it".to_owned(),
+    ]
+}
+
+/// What is wrong with a roster whose accounts rise, entry by entry.
 fn wrong_roster(file: Layout) -> Vec<String> {
     let (roster, totals) = (file.roster(), totals(file));
     let mut lines = vec![format!("the roster begins at byte {}", file.roster_begins())];
     for (entry, &(account, pixels)) in roster.iter().enumerate() {
         let total = totals[usize::from(account.0)];
-        let wrong = match roster[..entry].iter().any(|&(earlier, _)| earlier == account) {
-            true => "is there a second time".to_owned(),
-            false if total == 0 => "has no tile".to_owned(),
-            false if total != pixels => format!("has {pixels} pixels here, and {total} by the tiles"),
-            false => continue,
+        let wrong = match total {
+            0 => "has no tile".to_owned(),
+            _ if total != pixels => format!("has {pixels} pixels here, and {total} by the tiles"),
+            _ => continue,
         };
-        lines.push(format!(
-            "entry {entry} (the first is 0), byte {}: account {} {wrong}",
-            file.entry_begins(entry),
-            account.0
-        ));
+        lines.push(format!("{} {wrong}", entry_of(file, entry, account)));
     }
     let listed = |number: usize| roster.iter().any(|&(Account(account), _)| usize::from(account) == number);
     let missing = (0..totals.len()).filter(|&number| totals[number] != 0 && !listed(number));

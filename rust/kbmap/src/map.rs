@@ -67,14 +67,13 @@ impl Map {
         Failure::refusal(self.source.name(), refusal, &[asked])
     }
 
-    /// The accounts on the bed by rising number, with the pixels of the file's roster.
+    /// The accounts on the bed with their pixels, as the file's roster has them: by rising account.
     pub fn holdings(&self) -> Vec<Holding> {
         let mut tiles = vec![0; usize::from(u8::MAX) + 1];
         for tile in self.bed.tiles() {
             tiles[usize::from(tile.account().0)] += 1;
         }
-        let mut roster = Layout { bytes: &self.bytes }.roster();
-        roster.sort();
+        let roster = Layout { bytes: &self.bytes }.roster();
         let holding = |(account, pixels): (Account, u32)| {
             let tiles = tiles[usize::from(account.0)];
             Holding { account, class: words::class(account), tiles, pixels }

@@ -25,7 +25,7 @@ fn check() {
 #[test]
 fn check_refuses() {
     let scratch = Scratch::new();
-    let cases: [(usize, u8, &str, &str); 8] = [
+    let cases: [(usize, u8, &str, &str); 9] = [
         (0, 11, "1 ORDER_TOO_LARGE", "byte 0: the order is 11"),
         (
             1,
@@ -49,6 +49,7 @@ fn check_refuses() {
             "43 ROSTER_WRONG",
             "entry 0 (the first is 0), byte 22: account 5 has 5 pixels here, and 4 by the tiles",
         ),
+        (22, 10, "54 ROSTER_UNSORTED", "entry 1 (the first is 0), byte 27: account 9 is below account 10 of entry 0"),
     ];
     for (at, byte, name, told) in cases {
         let mut bytes = BED;
@@ -74,6 +75,29 @@ fn check_refuses_other_lengths() {
     assert!(scratch.fed("check -", b"").text().ends_with("\n  the file is empty\n"));
     let endless = scratch.kbmap("check /dev/zero");
     assert_eq!(endless, refused("kbmap: /dev/zero: longer than 64 MB: no map file and no picture of a bed is\n"));
+}
+
+/// Bed M's file with the two entries of its roster turned round, and with the first one twice.
+#[test]
+fn check_refuses_unsorted_rosters() {
+    let scratch = Scratch::with_zones();
+    let rosters = [
+        ([9, 0, 0, 0, 6, 5, 0, 0, 0, 4], "account 5 is below account 9 of entry 0, byte 22"),
+        ([5, 0, 0, 0, 4, 5, 0, 0, 0, 4], "account 5 again, as in entry 0, byte 22"),
+    ];
+    let sentence = "the accounts in the file's roster do not rise from entry to entry";
+    let rule = "the account of each entry must be above that of the entry ahead of it";
+    for (entries, told) in rosters {
+        let detail = format!("entry 1 (the first is 0), byte 27: {told}");
+        let verdict = format!("bad.map: refused, 54 ROSTER_UNSORTED: {sentence}\n  {detail}\n  {rule}\n");
+        scratch.put("bad.map", &[&BED[..22], &entries].concat());
+        let checked = scratch.kbmap("check bad.map");
+        assert_eq!((checked.status, checked.text(), checked.err.as_str()), (1, verdict.as_str(), ""));
+        for line in ["show bad.map", "claim bad.map 0 0 9", "inside zones.map bad.map -o third.map"] {
+            assert_eq!(scratch.kbmap(line), refused(&format!("kbmap: {verdict}")));
+        }
+        assert_eq!(scratch.names(), ["bad.map", "bed.map", "zones.map"]);
+    }
 }
 
 #[test]

@@ -135,27 +135,21 @@ pub fn file_case(random: &mut Random, count: &mut Count) {
     let mut slots: Vec<u32> = (0..room).map(|_| random.next() as u32).collect();
     let (number, order, tiles) = count.read(&bytes, &mut slots);
     if number == 0 {
-        // What was read is a map, and writing it gives the file again, but for the roster's order.
-        let (number, again) = count.write((order, tiles, &slots), &vec![0; bytes.len()]);
-        assert_eq!((number, again.len()), (0, bytes.len()), "a file read and written again");
-        assert_eq!(again[..6 + 4 * tiles], bytes[..6 + 4 * tiles], "a file read and written again");
-        let mut kept = vec![0; room];
-        assert_eq!(count.read(&again, &mut kept), (0, order, tiles));
-        assert_eq!(kept, slots, "a list written and read again");
+        // What was read is a map, and writing it gives the file's bytes again.
+        let written = count.write((order, tiles, &slots), &vec![0; bytes.len() + random.below(3)]);
+        assert_eq!(written, (0, bytes.clone()), "a file read and written again");
         let (number, raster) = count.decode((order, tiles, &slots), &vec![0; area(order) as usize]);
         assert_eq!(number, 0, "a list read and decoded");
         tallies(&bytes[6 + 4 * tiles..], &raster);
-        tallies(&again[6 + 4 * tiles..], &raster);
     }
     let cut = random.below(bytes.len() + 1);
     count.read(&bytes[..cut], &mut slots);
 }
 
-/// Roster entries, in any order, tally with a raster: each account on it has one entry, with the number of its pixels.
+/// Roster entries tally with a raster: by rising account, each account on it has one, with the number of its pixels.
 fn tallies(entries: &[u8], raster: &[u8]) {
     let total = |entry: &[u8]| (entry[0], entry[1..].iter().fold(0, |total, &byte| total << 8 | usize::from(byte)));
-    let mut listed: Vec<(u8, usize)> = entries.chunks(5).map(total).collect();
-    listed.sort();
+    let listed: Vec<(u8, usize)> = entries.chunks(5).map(total).collect();
     let counted = (1..=u8::MAX).map(|account| (account, raster.iter().filter(|&&pixel| pixel == account).count()));
     assert_eq!(listed, counted.filter(|&(_, pixels)| pixels > 0).collect::<Vec<_>>(), "the totals of a file");
 }
@@ -180,9 +174,6 @@ pub fn file(random: &mut Random, bytes: &mut Vec<u8>, tiles: usize) {
         return;
     }
     let at = random.below(bytes.len());
-    let roster = (5 + 4 * tiles).min(bytes.len() - 1);
-    let entries = (bytes.len() - roster - 1) / 5;
-    let entry = |index: usize| roster + 1 + 5 * index..roster + 6 + 5 * index;
     match random.below(12) {
         0 => bytes[at] ^= 1 << random.below(8),
         1 => bytes.truncate(at),
@@ -193,32 +184,43 @@ pub fn file(random: &mut Random, bytes: &mut Vec<u8>, tiles: usize) {
                 random.pick(&[0, tiles as u32 + 1, 0x4000_0000, 0x4000_0000 + tiles as u32, 0x8000_0000, u32::MAX]);
             bytes[1..5].copy_from_slice(&number.to_be_bytes());
         }
-        5 if entries > 1 => {
-            // Another order of the roster, which is no damage.
-            let (one, other) = (random.below(entries), random.below(entries));
-            for byte in 0..5 {
-                bytes.swap(entry(one).start + byte, entry(other).start + byte);
-            }
+        _ => roster(random, bytes, tiles),
+    }
+}
+
+/// One kind of damage to the roster of a file of so many tiles. Then the file may end within the roster or go on behind
+/// it, so that an entry which does not rise has a cut one or further bytes behind it.
+fn roster(random: &mut Random, bytes: &mut Vec<u8>, tiles: usize) {
+    let begins = (5 + 4 * tiles).min(bytes.len() - 1);
+    let section = bytes.split_off(begins);
+    let mut entries: Vec<Vec<u8>> = section[1..].chunks(5).map(<[u8]>::to_vec).collect();
+    let (before, all) = (entries.len() as u8, entries.len().max(1));
+    let (one, other) = (random.below(all), random.below(all));
+    match random.below(11) {
+        0 => entries.insert(0, vec![0; 5]),
+        1 | 2 => {
+            // An account without pixels, in its place or ahead of all others.
+            let account = random.between(1, 63) as u8;
+            let place = entries.iter().take_while(|entry| entry[0] < account).count();
+            entries.insert(random.pick(&[0, place, place]), vec![account, 0, 0, 0, 0]);
         }
-        6 if entries > 0 => {
-            let copied = bytes[entry(random.below(entries))].to_vec();
-            bytes.extend(copied);
-            bytes[roster] = bytes[roster].wrapping_add(1);
+        _ if entries.is_empty() => entries.push(vec![random.next() as u8, 0, 0, 0, 1]),
+        3 | 4 => entries.swap(one, other),
+        5 => entries.insert(other, entries[one].clone()),
+        6 => entries.push(entries[one].clone()),
+        7 => {
+            entries.remove(one);
         }
-        7 if entries > 0 => {
-            bytes.drain(entry(random.below(entries)));
-            bytes[roster] = bytes[roster].wrapping_sub(1);
-        }
-        8 if entries > 0 => bytes[entry(random.below(entries)).start] = random.pick(&[0, 1, 5, 63, 64, 128, 255]),
-        9 if entries > 0 => {
-            let last = entry(random.below(entries)).end - 1;
-            bytes[last] = bytes[last].wrapping_add(random.pick(&[1, 255]));
-        }
-        10 => {
-            // An entry for an account without pixels.
-            bytes.extend([random.between(1, 63) as u8, 0, 0, 0, 0]);
-            bytes[roster] = bytes[roster].wrapping_add(1);
-        }
-        _ => bytes[roster] = random.next() as u8,
+        8 => entries[one][0] = random.pick(&[0, 1, 5, 63, 64, 128, 255]),
+        9 => entries[one].iter_mut().skip(1).for_each(|byte| *byte = byte.wrapping_add(random.pick(&[0, 1, 255]))),
+        _ => entries.reverse(),
+    }
+    let count = section[0].wrapping_add(entries.len() as u8).wrapping_sub(before);
+    bytes.push(if random.once_in(12) { random.next() as u8 } else { count });
+    bytes.extend(entries.concat());
+    match random.below(6) {
+        0 => bytes.truncate(random.between(begins + 1, bytes.len())),
+        1 => bytes.extend((0..random.between(1, 6)).map(|_| 255)),
+        _ => {}
     }
 }

@@ -21,6 +21,7 @@ mod pair;
 mod plain;
 mod points;
 mod random;
+mod rosters;
 mod scans;
 mod sequences;
 mod worked;
@@ -41,10 +42,11 @@ struct Group {
 }
 
 /// Once, first.
-const ONCE: [Group; 6] = [
+const ONCE: [Group; 7] = [
     Group { name: "worked", case: |_, count| worked::lines(count), round: 1 },
     Group { name: "checks", case: |_, count| checks::in_order(count), round: 1 },
     Group { name: "limits", case: |_, count| limits::all(count), round: 1 },
+    Group { name: "rosters", case: |_, count| rosters::all(count), round: 1 },
     Group { name: "every-point", case: |_, count| points::all(count), round: 1 },
     Group { name: "every-position", case: |_, count| mils::all(count), round: 1 },
     Group { name: "patterns", case: large::patterns, round: 1 },

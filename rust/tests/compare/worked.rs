@@ -25,6 +25,7 @@ pub fn lines(count: &mut Count) {
     bed_m(count);
     small_beds(count);
     limits(count);
+    rosters(count);
     rights(count);
     places(count);
     zones(count);
@@ -45,9 +46,7 @@ fn bed_m(count: &mut Count) {
     assert_eq!(count.decode(at, &[0; 16]), (0, M.to_vec()));
     let (number, file) = count.write(at, &[0xee; 40]);
     assert_eq!((number, file.len()), (0, 32));
-    let entries: Vec<&[u8]> = file[22..].chunks(5).collect();
-    assert_eq!(file[21], 2);
-    assert!(entries.contains(&&[5, 0, 0, 0, 4][..]) && entries.contains(&&[9, 0, 0, 0, 6][..]));
+    assert_eq!(file[21..], [2, 5, 0, 0, 0, 4, 9, 0, 0, 0, 6]);
     let mut slots = vec![1; 7];
     assert_eq!(count.read(&file, &mut slots), (0, 2, 4));
     assert_eq!(slots, [69, 7177, 8201, 12361, 0, 0, 0]);
@@ -102,6 +101,41 @@ fn limits(count: &mut Count) {
     // A file's tile count that four times over would be small.
     assert_eq!(count.read(&[2, 0x40, 0, 0, 0, 0], &mut slots).0, 25);
     assert_eq!(count.read(&[11], &mut slots).0, 1);
+}
+
+/// M's file with other rosters: the number of entries, the entries, and what the reader answers.
+fn rosters(count: &mut Count) {
+    let head = [2, 0, 0, 0, 4, 0, 0, 0, 69, 0, 0, 28, 9, 0, 0, 32, 9, 0, 0, 48, 73];
+    let rosters: [(u8, &[u8], u32); 19] = [
+        (2, &[5, 0, 0, 0, 4, 9, 0, 0, 0, 6], 0),
+        // An entry that does not rise, with more or less behind it than there should be.
+        (2, &[9, 0, 0, 0, 6, 5, 0, 0, 0, 4], 54),
+        (2, &[5, 0, 0, 0, 4, 5, 0, 0, 0, 4], 54),
+        (3, &[5, 0, 0, 0, 4, 9, 0, 0, 0, 6, 9, 0, 0, 0, 6], 54),
+        (2, &[9, 0, 0, 0, 6, 5, 0, 0, 0, 4, 0], 54),
+        (3, &[9, 0, 0, 0, 6, 5, 0, 0, 0, 4], 54),
+        (3, &[9, 0, 0, 0, 6, 5, 0, 0, 0, 4, 7, 0], 54),
+        (2, &[9, 0, 0, 0, 7, 5, 0, 0, 0, 4], 54),
+        (2, &[0, 0, 0, 0, 0, 0, 0, 0, 0, 0], 54),
+        // Before its five bytes are there it is not looked at, nor is one that the count does not announce.
+        (2, &[9, 0, 0, 0, 6, 5, 0, 0, 0], 41),
+        (1, &[9, 0, 0, 0, 6, 5, 0, 0, 0, 4], 42),
+        (2, &[5, 0, 0, 0, 5, 9, 0, 0, 0, 6, 0], 42),
+        // Rising accounts that are not those of the tiles; the first entry has none ahead of it.
+        (3, &[0, 0, 0, 0, 0, 5, 0, 0, 0, 4, 9, 0, 0, 0, 6], 43),
+        (3, &[5, 0, 0, 0, 4, 7, 0, 0, 0, 0, 9, 0, 0, 0, 6], 43),
+        (3, &[5, 0, 0, 0, 4, 9, 0, 0, 0, 6, 64, 0, 0, 0, 0], 43),
+        (3, &[5, 0, 0, 0, 4, 9, 0, 0, 0, 6, 255, 0, 0, 0, 0], 43),
+        (1, &[5, 0, 0, 0, 4], 43),
+        (1, &[9, 0, 0, 0, 6], 43),
+        (2, &[5, 0, 0, 0, 4, 9, 0, 0, 0, 7], 43),
+    ];
+    for (entries, bytes, number) in rosters {
+        let mut slots = vec![1; 5];
+        let answer = if number == 0 { (0, 2, 4) } else { (number, 0, 0) };
+        assert_eq!(count.read(&[&head, &[entries][..], bytes].concat(), &mut slots), answer, "{entries}, {bytes:?}");
+        assert_eq!(slots, if number == 0 { [69, 7177, 8201, 12361, 0] } else { [1; 5] });
+    }
 }
 
 /// The table of rights: askers and holders from each class, at the ends of each range.

@@ -17,7 +17,7 @@ fn roster(order: u32, tiles: &[Tile]) -> Vec<(u8, u32)> {
         .collect()
 }
 
-/// The file of a list. The paper leaves the roster's order open; the library's writer promises rising accounts.
+/// The file of a list.
 pub fn write(order: u32, tiles: &[Tile]) -> Vec<u8> {
     let mut bytes = vec![order as u8];
     bytes.extend((tiles.len() as u32).to_be_bytes());
@@ -73,14 +73,19 @@ pub fn read(bytes: &[u8], m: usize) -> Result<(u32, Vec<Tile>), u32> {
             number => return Err(number),
         }
     }
-    let mut entries = Vec::new();
+    let mut entries: Vec<(u8, u32)> = Vec::new();
     for _ in 0..items.byte()? {
-        entries.push((items.byte()?, items.word()?));
+        let entry = (items.byte()?, items.word()?);
+        if let Some(ahead) = entries.last() {
+            if entry.0 <= ahead.0 {
+                return Err(54);
+            }
+        }
+        entries.push(entry);
     }
     if items.bytes.next().is_some() {
         return Err(42);
     }
-    entries.sort();
     if entries != roster(order, &tiles) {
         return Err(43);
     }

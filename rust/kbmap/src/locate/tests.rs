@@ -84,9 +84,7 @@ fn rosters() {
     let begins = "the roster begins at byte 21\n";
     let wrong = "entry 1 (the first is 0), byte 27: account 9 has 7 pixels here, and 6 by the tiles";
     told(|file| file[31] = 7, 43, &format!("{begins}{wrong}"));
-    let twice = "entry 1 (the first is 0), byte 27: account 5 is there a second time";
     let missing = "no entry: account 9 has 6 pixels by the tiles";
-    told(|file| file[27] = 5, 43, &format!("{begins}{twice}\n{missing}"));
     let strange = "entry 1 (the first is 0), byte 27: account 200 has no tile";
     told(|file| file[27] = 200, 43, &format!("{begins}{strange}\n{missing}"));
     let shorter = |file: &mut Vec<u8>| {
@@ -94,6 +92,36 @@ fn rosters() {
         file.truncate(27);
     };
     told(shorter, 43, &format!("{begins}{missing}"));
+    let nobodys = |file: &mut Vec<u8>| {
+        file[21] = 3;
+        file.splice(22..22, [0; 5]);
+    };
+    told(nobodys, 43, &format!("{begins}entry 0 (the first is 0), byte 22: account 0 has no tile"));
+}
+
+/// The roster of bed M, from its count on, becomes another.
+fn roster(file: &mut Vec<u8>, bytes: &[u8]) {
+    file.truncate(21);
+    file.extend(bytes);
+}
+
+/// The first entry that does not rise is told, whatever comes behind it.
+#[test]
+fn unsorted_rosters() {
+    let rule = "the account of each entry must be above that of the entry ahead of it";
+    let falls = |file: &mut Vec<u8>| roster(file, &[2, 9, 0, 0, 0, 6, 5, 0, 0, 0, 4]);
+    let below = "entry 1 (the first is 0), byte 27: account 5 is below account 9 of entry 0, byte 22";
+    told(falls, 54, &format!("{below}\n{rule}"));
+    let again = "entry 1 (the first is 0), byte 27: account 5 again, as in entry 0, byte 22";
+    told(|file| file[27] = 5, 54, &format!("{again}\n{rule}"));
+    let later = |file: &mut Vec<u8>| roster(file, &[4, 5, 0, 0, 0, 4, 9, 0, 0, 0, 6, 0, 0, 0, 0, 0, 0, 0, 0]);
+    let second = "entry 2 (the first is 0), byte 32: account 0 is below account 9 of entry 1, byte 27";
+    told(later, 54, &format!("{second}\n{rule}"));
+    let longer = |file: &mut Vec<u8>| {
+        falls(file);
+        file.push(7);
+    };
+    told(longer, 54, &format!("{below}\n{rule}"));
 }
 
 /// Whatever byte is changed, and wherever the file is cut: what is refused is told with at least one line.

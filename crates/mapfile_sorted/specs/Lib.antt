@@ -1,0 +1,3 @@
+-- The roster by rising account.
+pub mod Sorted
+pub mod Worked
