@@ -2,30 +2,25 @@
 --     rise-start, -cut, -low, -on, -end   each entry is there, and its account is above the one ahead of it
 --     rise-room, rise-rising              entries that are accepted are there, and their accounts rise
 --     rise-other                          they are accepted where the number is neither 41 nor 54
---     Summing ts q rs j p sum             j entries are right and have `sum` pixels: those from p on decide whether the q entries are the roster
---     summing-start, -stop, -on, -fits, -less, -end
+--     right-start, -stop, -on, -end       each entry has the pixels of its account, of which there are some
+--     sum-start, -on, -end                the pixels that the entries say they have, by those from p on
 use mathlib.Core.Path.{_≡_, refl, sym, _∙_}
-use mathlib.Core.Bool.{true, false, _&&_}
+use mathlib.Core.Bool.{Bool, true, false, _&&_}
 use mathlib.Core.List.{List}
 use Prim.Native.Nat.{ℕ, zero, suc, _+_, _-_, _*_, _≤_, _<_}
 use native.Mathlib.Omega.{arith}
 use native.Mathlib.Numerals.{add-one}
-use lib.Dec.{eqb}
 use lib.ListN.{length, getD}
-use borrow.Author.Tests.{lt-leb, le-leb, lt-ltb, eq-eqb, ne-eqb}
-use Rattle.basics.proofs.Tests.{test-leb, test-eqb}
-use Rattle.basics.proofs.ChoiceLaws.{by-if}
+use borrow.Author.Tests.{lt-leb, le-leb}
+use Rattle.basics.proofs.Tests.{test-leb}
 use Rattle.refusal.specs.Refusal.{accepted, fileCutShort, rosterUnsorted}
 use Rattle.refusal.specs.Checks.{must}
 use Rattle.refusal.proofs.CheckLaws.{must-pass, must-inv, must-other}
 use Rattle.tile.specs.Tile.{Tile}
 use Rattle.mapfile_bytes.specs.Items.{wordAt}
-use Rattle.mapfile_roster.specs.Roster.{covered, Entry, rosterGood}
 use Rattle.mapfile_roster.proofs.RosterLaws.{ByAccount, end, link}
-use Rattle.mapfile_roster.proofs.RisingLaws.{listed-few}
 use Rattle.mapfile_entries.specs.RosterCheck.{entriesAt, entriesCheck}
-use Rattle.mapfile_entries.specs.Pixels.{areaOf, rightPixels}
-use Rattle.mapfile_entries.proofs.Summed.{pixelsOf, entriesRight, pixels-few, good-summed}
+use Rattle.mapfile_entries.specs.Pixels.{pixelsIn, entryRight, entriesRight}
 
 module _ (q : ℕ) (rs : List ℕ) where
   pub rise-start : entriesCheck q 0 rs 1 ≡ entriesCheck (q - 0) 0 rs 1
@@ -74,57 +69,35 @@ rise-other (suc q) least rs p f g e =
     let b = must-other (test-leb least (getD rs p 0)) g (a .1) in
     must-pass fileCutShort (test-leb (p + 5) (length rs)) (a .0) (must-pass rosterUnsorted (test-leb least (getD rs p 0)) (b .0) (rise-other q (suc (getD rs p 0)) rs (p + 5) f g (b .1)))
 
-pub record Summing (ts : List Tile) (q : ℕ) (rs : List ℕ) (j p sum : ℕ) : Type 0 where
-  pub rising : entriesCheck q 0 rs 1 ≡ accepted
-  pub summed : sum + pixelsOf ts (entriesAt (q - j) rs p) ≡ pixelsOf ts (entriesAt q rs 1)
-  pub good : rosterGood ts (entriesAt q rs 1) ≡ (entriesRight ts (entriesAt (q - j) rs p) && eqb (pixelsOf ts (entriesAt q rs 1)) (areaOf ts))
+module _ (ts : List Tile) (q : ℕ) (rs : List ℕ) where
+  pub right-start : entriesRight ts (entriesAt q rs 1) ≡ entriesRight ts (entriesAt (q - 0) rs 1)
+  right-start = let z : q - 0 ≡ q = omega arith in rw z
 
-pub summing-start : (ts : List Tile) (q : ℕ) (rs : List ℕ) → entriesCheck q 0 rs 1 ≡ accepted → Summing ts q rs 0 1 0
-summing-start ts q rs e =
-    let z : q - 0 ≡ q = omega arith in
-    record {
-      rising = e;
-      summed = rw z (omega arith);
-      good = rw z (good-summed ts (entriesAt q rs 1) (rise-rising q 0 rs 1 e));
-    }
+  module _ (j p : ℕ) {w : Bool} (e : w ≡ entriesRight ts (entriesAt (q - j) rs p)) where
+    pub right-end : j ≡ q → true ≡ w
+    unfolding entriesRight entriesAt
+    right-end h = let z : q - j ≡ 0 = omega arith in sym (e ∙ rw z)
 
--- an entry whose pixels are right and some has those of its account
-right-some : (ts : List Tile) (e : Entry) (x : ℕ) → x ≡ rightPixels ts e → (x ≡ 0 → ⊥) → x ≡ covered (e .account) ts
-unfolding rightPixels
-right-some ts e x k o = by-if (λ (y : ℕ). x ≡ y → x ≡ covered (e .account) ts) (test-eqb (e .pixels) (covered (e .account) ts)) (λ q r. r) (λ q r. absurd (o r)) k
+    module _ (h : j < q) (g : Bool) (eg : g ≡ entryRight ts (record { account = getD rs p 0; pixels = wordAt rs (p + 1) })) where
+      turn : w ≡ (g && entriesRight ts (entriesAt (q - (j + 1)) rs (p + 5)))
+      unfolding entriesRight entriesAt
+      turn = let z : q - j ≡ suc (q - (j + 1)) = omega arith in e ∙ rw (z, eg)
 
-module _ {ts : List Tile} {q : ℕ} {rs : List ℕ} {j p sum : ℕ} (s : Summing ts q rs j p sum) where
-  module _ (h : j < q) (x : ℕ) (ex : x ≡ rightPixels ts (record { account = getD rs p 0; pixels = wordAt rs (p + 1) })) where
-    pub summing-stop : x ≡ 0 → false ≡ rosterGood ts (entriesAt q rs 1)
-    unfolding entriesAt entriesRight
-    summing-stop k = let z : q - j ≡ suc (q - (j + 1)) = omega arith in sym (s .good ∙ rw (z, ← ex, k))
+      pub right-on : g ≡ true → w ≡ entriesRight ts (entriesAt (q - (j + 1)) rs (p + 5))
+      right-on k = turn ∙ rw k
 
-    module _ (o : x ≡ 0 → ⊥) where
-      taken : sum + x + pixelsOf ts (entriesAt (q - (j + 1)) rs (p + 5)) ≡ pixelsOf ts (entriesAt q rs 1)
-      unfolding entriesAt pixelsOf
-      taken =
-          let z : q - j ≡ suc (q - (j + 1)) = omega arith in
-          omega (arith, rw z at (s .summed), right-some ts (record { account = getD rs p 0; pixels = wordAt rs (p + 1) }) x ex o)
+      pub right-stop : g ≡ false → false ≡ w
+      right-stop k = sym (turn ∙ rw k)
 
-      pub summing-on : Summing ts q rs (j + 1) (p + 5) (sum + x)
-      unfolding entriesAt entriesRight
-      summing-on =
-          let z : q - j ≡ suc (q - (j + 1)) = omega arith in
-          record { rising = s .rising; summed = taken; good = s .good ∙ rw (z, ← ex, lt-ltb 0 x (omega arith)) }
+module _ (q : ℕ) (rs : List ℕ) where
+  pub sum-start : 0 + pixelsIn (entriesAt (q - 0) rs 1) ≡ pixelsIn (entriesAt q rs 1)
+  sum-start = let z : q - 0 ≡ q = omega arith in rw z (omega arith)
 
-      -- what is summed is no more than the pixels of all tiles
-      pub summing-fits : sum + x ≤ areaOf ts
-      summing-fits = omega (arith, taken, pixels-few (entriesAt q rs 1) (λ a. listed-few a (rise-rising q 0 rs 1 (s .rising))) ts)
+  module _ (j p sum : ℕ) {all : ℕ} (e : sum + pixelsIn (entriesAt (q - j) rs p) ≡ all) where
+    pub sum-on : (x : ℕ) → j < q → x ≡ wordAt rs (p + 1) → sum + x + pixelsIn (entriesAt (q - (j + 1)) rs (p + 5)) ≡ all
+    unfolding pixelsIn entriesAt
+    sum-on x h k = let z : q - j ≡ suc (q - (j + 1)) = omega arith in omega (arith, rw z at e)
 
-  module _ (h : j ≡ q) (a : ℕ) (ea : a ≡ areaOf ts) where
-    all-summed : sum ≡ pixelsOf ts (entriesAt q rs 1)
-    unfolding entriesAt pixelsOf
-    all-summed = let z : q - j ≡ 0 = omega arith in omega (arith, rw z at (s .summed))
-
-    pub summing-less : (sum ≡ a → ⊥) → false ≡ rosterGood ts (entriesAt q rs 1)
-    unfolding entriesAt entriesRight
-    summing-less k = let z : q - j ≡ 0 = omega arith in sym (s .good ∙ rw (z, ← ea, ← all-summed, ne-eqb sum a k))
-
-    pub summing-end : sum ≡ a → true ≡ rosterGood ts (entriesAt q rs 1)
-    unfolding entriesAt entriesRight
-    summing-end k = let z : q - j ≡ 0 = omega arith in sym (s .good ∙ rw (z, ← ea, ← all-summed, eq-eqb sum a k))
+    pub sum-end : j ≡ q → sum ≡ all
+    unfolding pixelsIn entriesAt
+    sum-end h = let z : q - j ≡ 0 = omega arith in omega (arith, rw z at e)

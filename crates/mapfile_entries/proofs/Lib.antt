@@ -1,6 +1,6 @@
 -- Laws of the passes over the words of a file and over the entries of its roster.
 --     Summed          rising entries are the roster if they are right and together have the pixels of all tiles
---     Sums            sums over the words of a file, turn by turn
+--     Sums            the pixels of an account, turn by turn
 --     EntriesInTurn   the entries in turn
 pub mod Summed
 pub mod Sums

@@ -1,10 +1,6 @@
 -- Rising entries are the roster of the tiles exactly if each has the pixels of its account, of which there are some, and
 -- together they have those of all tiles: an account that is missing would leave its tiles out of the sum.
---     pixelsOf ts es       the pixels of the entries' accounts
---     entriesRight ts es   each entry has the pixels of its account, of which there are some
---     pixels-few           the pixels of rising entries are no more than those of all tiles
---     good-summed          of rising entries, `rosterGood` is that test
---     area-fits            the pixels of a valid list are no more than the largest bed has
+--     good-summed   of rising entries, `rosterGood` is that test
 use mathlib.Core.Path.{_≡_, refl, sym}
 use mathlib.Core.Bool.{Bool, true, false, _&&_}
 use mathlib.Core.List.{List, [], _∷_, List·Memᴰ, List·Memᴰ·head, List·Memᴰ·tail}
@@ -13,27 +9,20 @@ use native.Mathlib.Decide.{decLe}
 use native.Mathlib.Omega.{arith}
 use lib.Dec.{ltb, eqb}
 use borrow.Author.Tests.{eq-eqb}
-use Rattle.basics.specs.Choice.{if}
-use Rattle.basics.proofs.Tests.{Test, holds, fails, test-leb, test-eqb, test-and, test-map, test-alike}
+use Rattle.basics.proofs.Tests.{Test, holds, fails, test-leb, test-eqb, test-and, test-map, test-alike, told-true}
 use Rattle.basics.proofs.ChoiceLaws.{if-yes, if-no}
-use Rattle.tile.specs.Tile.{Tile, highestOrder}
-use Rattle.quadtree.specs.Valid.{Valid}
-use Rattle.quadtree.proofs.Alignment.{area-pos, area-mono}
-use Rattle.quadtree.proofs.Tiling.{Tiling, none, next}
-use Rattle.quadtree.proofs.ValidLaws.{valid-tiling}
+use Rattle.tile.specs.Tile.{Tile}
+use Rattle.quadtree.proofs.Alignment.{area-pos}
 use Rattle.mapfile_roster.specs.Roster.{covered, Entry, listed, entryGood, entriesGood, tilesListed, rosterGood}
 use Rattle.mapfile_roster.proofs.RosterLaws.{ByAccount}
 use Rattle.mapfile_roster.proofs.GoodLaws.{listed-some}
 use Rattle.mapfile_roster.proofs.RisingLaws.{listed-few}
-use Rattle.mapfile_entries.specs.Pixels.{areaOf, rightPixels}
+use Rattle.mapfile_entries.specs.Pixels.{areaOf, pixelsIn, entryRight, entriesRight}
 
-unfoldable pub pixelsOf : List Tile → List Entry → ℕ
+-- the pixels of the entries' accounts
+unfoldable pixelsOf : List Tile → List Entry → ℕ
 pixelsOf ts [] = 0
 pixelsOf ts (e ∷ es) = covered (e .account) ts + pixelsOf ts es
-
-unfoldable pub entriesRight : List Tile → List Entry → Bool
-entriesRight ts [] = true
-entriesRight ts (e ∷ es) = ltb 0 (rightPixels ts e) && entriesRight ts es
 
 -- no tiles have no pixels
 pixels-none : (es : List Entry) → pixelsOf [] es ≡ 0
@@ -66,7 +55,7 @@ module _ (t : Tile) (ts : List Tile) where
   pixels-on (e ∷ es) h = pixels-one e es (test-eqb (e .account) (t .account)) h (pixels-on es)
 
 module _ (es : List Entry) (few : (a : ℕ) → listed a es ≤ 1) where
-  pub pixels-few : (ts : List Tile) → pixelsOf ts es ≤ areaOf ts
+  pixels-few : (ts : List Tile) → pixelsOf ts es ≤ areaOf ts
   unfolding areaOf
   pixels-few [] = omega (arith, pixels-none es)
   pixels-few (t ∷ ts) = elim (decLe 1 (listed (t .account) es)) [
@@ -91,36 +80,45 @@ module _ (es : List Entry) (few : (a : ℕ) → listed a es ≤ 1) where
   test-listed [] = holds (pixels-none es)
   test-listed (t ∷ ts) = test-map (sum-on t ts) (sum-back t ts) (test-and (test-leb 1 (listed (t .account) es)) (test-listed ts))
 
-and-test : (a b : Bool) (x : ℕ) → a ≡ ltb 0 x → (a && (b && true)) ≡ ltb 0 (if b x 0)
-unfolding if
-and-test true true x e = e
-and-test true false x e = refl
-and-test false true x e = e
-and-test false false x e = refl
+and-inv : (a b : Bool) → (a && b) ≡ true → (a ≡ true) × (b ≡ true)
+and-inv true b e = (refl, e)
+and-inv false b e = absurd (let z : _≡_ {A = ℕ} 0 1 = cc in omega arith)
+
+and-turn : (a b : Bool) → (a && (b && true)) ≡ (a && b)
+and-turn true true = refl
+and-turn true false = refl
+and-turn false b = refl
+
+and-swap : (a b c : Bool) → (a ≡ true → b ≡ c) → (a && b) ≡ (c && a)
+and-swap true true c h = let e : true ≡ c = h refl in rw (sym e)
+and-swap true false c h = let e : false ≡ c = h refl in rw (sym e)
+and-swap false b true h = refl
+and-swap false b false h = refl
 
 module _ (ts : List Tile) where
-  entries-right : (all es : List Entry) → ((e : Entry) → List·Memᴰ e es → listed (e .account) all ≡ 1) → entriesGood ts all es ≡ entriesRight ts es
-  unfolding entriesGood entryGood entriesRight rightPixels
-  entries-right all [] h = refl
-  entries-right all (e ∷ es) h =
+  good-right : (all es : List Entry) → ((e : Entry) → List·Memᴰ e es → listed (e .account) all ≡ 1) → entriesGood ts all es ≡ entriesRight ts es
+  unfolding entriesGood entryGood entriesRight entryRight
+  good-right all [] h = refl
+  good-right all (e ∷ es) h =
       rw (
         eq-eqb (listed (e .account) all) 1 (h e (List·Memᴰ·head refl)),
-        and-test (ltb 0 (covered (e .account) ts)) (eqb (e .pixels) (covered (e .account) ts)) (covered (e .account) ts) refl,
-        entries-right all es (λ x m. h x (List·Memᴰ·tail m)),
+        and-turn (ltb 0 (covered (e .account) ts)) (eqb (e .pixels) (covered (e .account) ts)),
+        good-right all es (λ x m. h x (List·Memᴰ·tail m)),
       )
 
-  pub good-summed : {lo : ℕ} (es : List Entry) → ByAccount lo es → rosterGood ts es ≡ (entriesRight ts es && eqb (pixelsOf ts es) (areaOf ts))
+  -- entries that are right have the pixels of their accounts
+  right-pixels : (es : List Entry) → entriesRight ts es ≡ true → pixelsIn es ≡ pixelsOf ts es
+  unfolding entriesRight entryRight pixelsIn pixelsOf
+  right-pixels [] h = refl
+  right-pixels (e ∷ es) h =
+      let a = and-inv (entryRight ts e) (entriesRight ts es) h in
+      let b = and-inv (ltb 0 (covered (e .account) ts)) (eqb (e .pixels) (covered (e .account) ts)) (a .0) in
+      omega (arith, told-true (test-eqb (e .pixels) (covered (e .account) ts)) (b .1), right-pixels es (a .1))
+
+  pub good-summed : {lo : ℕ} (es : List Entry) → ByAccount lo es → rosterGood ts es ≡ (eqb (pixelsIn es) (areaOf ts) && entriesRight ts es)
   unfolding rosterGood
   good-summed es r =
       rw (
-        entries-right es es (λ e m. omega (arith, listed-some es e m, listed-few (e .account) r)),
+        good-right es es (λ e m. omega (arith, listed-some es e m, listed-few (e .account) r)),
         test-alike (test-listed es (λ a. listed-few a r) ts) (test-eqb (pixelsOf ts es) (areaOf ts)) (λ e. e) (λ e. e),
-      )
-
-tiling-area : {f : ℕ → ℕ} {hi lo : ℕ} {ts : List Tile} → Tiling f hi lo ts → areaOf ts + lo ≤ hi
-unfolding areaOf
-tiling-area (none h b) = omega arith
-tiling-area (next {t = t} n r) = omega (arith, tiling-area r, n .after)
-
-pub area-fits : {n : ℕ} {ts : List Tile} → n ≤ highestOrder → Valid n ts → areaOf ts ≤ 4 ^ highestOrder
-area-fits {n} h v = let l : 4 ^ n ≤ 4 ^ highestOrder = area-mono h in omega (arith, tiling-area (valid-tiling v))
+      ) (and-swap (entriesRight ts es) (eqb (pixelsOf ts es) (areaOf ts)) (eqb (pixelsIn es) (areaOf ts)) (λ h. rw (right-pixels es h)))

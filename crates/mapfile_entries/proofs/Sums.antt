@@ -1,6 +1,5 @@
 -- Sums over the words of a file, turn by turn: what is summed and what is left make the whole.
 --     covered-start, -on, -end   the pixels of an account, by the words from p on
---     area-start, -on, -end      the pixels of all tiles, by the words from p on
 use mathlib.Core.Path.{_≡_}
 use mathlib.Core.List.{List, map}
 use Prim.Native.Nat.{ℕ, suc, _+_, _-_, _^_, _<_}
@@ -10,7 +9,6 @@ use Rattle.basics.specs.Choice.{if}
 use Rattle.tile.specs.Tile.{tileOf}
 use Rattle.mapfile_bytes.specs.Items.{wordAt, wordsAt}
 use Rattle.mapfile_roster.specs.Roster.{covered}
-use Rattle.mapfile_entries.specs.Pixels.{areaOf}
 
 module _ (a t : ℕ) (bs : List ℕ) where
   pub covered-start : 0 + covered a (map tileOf (wordsAt (t - 0) bs 5)) ≡ covered a (map tileOf (wordsAt t bs 5))
@@ -26,19 +24,3 @@ module _ (a t : ℕ) (bs : List ℕ) where
     pub covered-end : i ≡ t → sum ≡ all
     unfolding covered wordsAt
     covered-end h = let s : t - i ≡ 0 = omega arith in omega (arith, rw s at e)
-
-module _ (t : ℕ) (bs : List ℕ) where
-  pub area-start : 0 + areaOf (map tileOf (wordsAt (t - 0) bs 5)) ≡ areaOf (map tileOf (wordsAt t bs 5))
-  area-start = let s : t - 0 ≡ t = omega arith in rw s (omega arith)
-
-  module _ (i p sum : ℕ) {all : ℕ} (e : sum + areaOf (map tileOf (wordsAt (t - i) bs p)) ≡ all) where
-    pub area-on : (x k w : ℕ) → i < t → w ≡ wordAt bs p → k ≡ tileOf w .size → x ≡ 4 ^ k → sum + x + areaOf (map tileOf (wordsAt (t - (i + 1)) bs (p + 4))) ≡ all
-    unfolding areaOf wordsAt
-    area-on x k w h v ek ex =
-        let s : t - i ≡ suc (t - (i + 1)) = omega arith in
-        let y : x ≡ 4 ^ tileOf w .size = rw ek at ex in
-        omega (arith, rw (s, ← v) at e)
-
-    pub area-end : i ≡ t → sum ≡ all
-    unfolding areaOf wordsAt
-    area-end h = let s : t - i ≡ 0 = omega arith in omega (arith, rw s at e)

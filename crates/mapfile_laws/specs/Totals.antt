@@ -3,8 +3,8 @@
 -- for nobody's pixels, and no total.
 --     occurs a bytes      how many of the bytes are a
 --     fileEntries file    the entries of a file's roster
---     Tallies raster es   the entries es, in any order, are what the raster has: an account with pixels there has one
---                         entry, and its total is the number of these pixels; no other account has an entry
+--     Tallies raster es   the entries es, wherever they stand, are what the raster has: an account with pixels there
+--                         has one entry, and its total is the number of these pixels; no other account has an entry
 --     Totals              what is promised
 use mathlib.Core.Path.{_≡_}
 use mathlib.Core.Bool.{true}

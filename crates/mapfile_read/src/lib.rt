@@ -1,12 +1,14 @@
 // The reader of a map file. A file is any bytes: everything is examined first, read only, and stored then.
 ghost use mathlib.Core.Path.{_≡_};
-ghost use mathlib.Core.List.{[], _++_};
+ghost use mathlib.Core.List.{[], _++_, map};
 ghost use Prim.Native.Nat.{_≤_};
 ghost use lib.ListN.{length, drop};
+ghost use Rattle.refusal.specs.Refusal.{accepted};
 ghost use Rattle.refusal.specs.Checks.{Gives};
-ghost use Rattle.tile.specs.Tile.{highestOrder};
+ghost use Rattle.tile.specs.Tile.{tileOf, highestOrder};
 ghost use Rattle.mapfile_bytes.specs.Layout.{wordsPlace, rosterPlace};
 ghost use Rattle.mapfile_bytes.specs.Items.{wordsAt};
+ghost use Rattle.mapfile_entries.specs.Pixels.{areaOf};
 ghost use Rattle.mapfile_read.specs.Reader.{tilesCheck, readOf};
 ghost use Rattle.mapfile_read.specs.Examined.{refusedWith, examined};
 
@@ -18,28 +20,44 @@ pub struct Reading {
     pub tiles: usize,
 }
 
+// What the words of a file come to: the first refusal, or that they are accepted and the pixels of all their tiles.
+struct Tiled {
+    refusal: u32,
+    area: u32,
+}
+
 // The words in turn, each where the bytes have it.
-fn words(order: u32, tiles: usize, file: &[u8]) -> u32
+fn words(order: u32, tiles: usize, file: &[u8]) -> Tiled
     requires { ⌜ (order ≤ highestOrder) × (wordsPlace ≤ length (now file)) ⌝ }
-    ensures { λ r. ⌜ r ≡ tilesCheck order tiles [] (now (file .entry)) wordsPlace ⌝ }
+    ensures { λ r. ⌜ (r .refusal ≡ tilesCheck order tiles [] (now (file .entry)) wordsPlace)
+        × (r .refusal ≡ accepted → r .area ≡ areaOf (map tileOf (wordsAt tiles (now (file .entry)) wordsPlace))) ⌝ }
 {
     let mut ahead = list_check::start();
+    let mut area = 0;
     let mut i = 0;
     let mut p = mapfile_bytes::WORDS_PLACE;
     while i < tiles {
         if file.len() - p < mapfile_bytes::WORD_LENGTH {
-            return refusal::FILE_CUT_SHORT;
+            return Tiled {
+                refusal: refusal::FILE_CUT_SHORT,
+                area: 0,
+            };
         }
         let judged = list_check::step(order, ahead, mapfile_bytes::word_at(file, p));
         let refusal = judged.refusal;
         if refusal != refusal::ACCEPTED {
-            return refusal;
+            return Tiled { refusal, area: 0 };
         }
         ahead = judged.ahead;
+        let size = ahead.size;
+        area += tile::area(size);
         i += 1;
         p += mapfile_bytes::WORD_LENGTH;
     }
-    refusal::ACCEPTED
+    Tiled {
+        refusal: refusal::ACCEPTED,
+        area,
+    }
 }
 
 // The answer of a refusal.
@@ -71,12 +89,14 @@ fn examine(slots: usize, file: &[u8]) -> Reading
     if slots < tiles {
         return refused(refusal::SLOTS_EXCEEDED);
     }
-    let listed = words(order, tiles, file);
+    let tiled = words(order, tiles, file);
+    let listed = tiled.refusal;
     if listed != refusal::ACCEPTED {
         return refused(listed);
     }
+    let area = tiled.area;
     let at = mapfile_bytes::WORDS_PLACE + mapfile_bytes::WORD_LENGTH * tiles;
-    let roster = mapfile_entries::check(order, tiles, file, &file[at..]);
+    let roster = mapfile_entries::check(order, tiles, area, file, &file[at..]);
     if roster != refusal::ACCEPTED {
         return refused(roster);
     }

@@ -23,10 +23,16 @@ roster-lines = record {
   then-cut = refl;
   then-more = refl;
   cut = refl;
+  cut-behind = refl;
+  cut-count = refl;
   more = refl;
+  more-falling = refl;
   nobody = refl;
   nobody-twice = refl;
   extra = refl;
+  above = refl;
+  highest = refl;
+  highest-twice = refl;
   missing = refl;
   none = refl;
 }

@@ -30,8 +30,8 @@ use Rattle.mapfile_read.proofs.ReaderLaws.{fileCheck-passed, fileCheck-roster, 
 use Rattle.mapfile_write.specs.Writer.{fileOf, writeCheck, writeOf}
 use Rattle.mapfile_laws.specs.Totals.{fileEntries}
 use Rattle.mapfile_laws.proofs.RoundTrip.{fileOf-entries, fileOf-accepted, tiles-accounts, slots-accounts, write-number, write-passed, written-file}
-use Rattle.mapfile_sorted.specs.Sorted.{section, entryCount, entryAccount, Rises, Falls, Whole, Listed, tilesOf, WritesSorted, RosterRead, ReadsSorted}
-use Rattle.mapfile_sorted.proofs.Section.{falls-between, whole-passed, section-unsorted, section-wrong, section-accepts}
+use Rattle.mapfile_sorted.specs.Sorted.{section, entryCount, entryAccount, Rises, Unsorted, Ends, TilesPass, tilesOf, WritesSorted, RosterRead, ReadsSorted}
+use Rattle.mapfile_sorted.proofs.Section.{falls-between, rises-pass, section-unsorted, section-cut, section-more, section-wrong, section-accepts}
 
 -- the entries of a section by rising account, by their places
 module _ (rs : List ℕ) where
@@ -65,40 +65,40 @@ roster-rises : (file : List ℕ) → fileEntries file ≡ rosterOf (tilesOf file
 roster-rises file e j = by-place (section file) (entryCount (section file)) 1 1 j (rw e (rosterOf-rising (tilesOf file)))
 
 module _ (m : ℕ) (file : List ℕ) where
-  listed-valid : Listed m file → Valid (fileOrder file) (tilesOf file)
-  listed-valid l = tilesCheck-valid (fileOrder file) (l .order) (fileCount file) file (l .head) (l .words) .1
+  pass-valid : TilesPass m file → Valid (fileOrder file) (tilesOf file)
+  pass-valid l = tilesCheck-valid (fileOrder file) (l .order) (fileCount file) file (l .head) (l .words) .1
 
-  listed-number : Listed m file → fileCheck m file ≡ rosterCheck (tilesOf file) (section file)
-  listed-number l = fileCheck-roster m file (l .head) (l .order) (l .slots) (l .words)
+  pass-number : TilesPass m file → fileCheck m file ≡ rosterCheck (tilesOf file) (section file)
+  pass-number l = fileCheck-roster m file (l .head) (l .order) (l .slots) (l .words)
 
-  number-listed : {x : ℕ} → ((y : ℕ) → 0 < y → y ≤ fileCutShort → y ≡ x → ⊥) → fileCheck m file ≡ x → Listed m file × (rosterCheck (tilesOf file) (section file) ≡ x)
-  number-listed h e =
+  number-pass : {x : ℕ} → ((y : ℕ) → 0 < y → y ≤ fileCutShort → y ≡ x → ⊥) → fileCheck m file ≡ x → TilesPass m file × (rosterCheck (tilesOf file) (section file) ≡ x)
+  number-pass h e =
       let p = fileCheck-passed m file h e in
       (record { head = omega (arith, p .room); order = p .order; slots = p .count; words = p .words }, p .roster)
 
   -- entries that rise and are good are the roster
-  only : Listed m file → Whole (section file) → Rises (section file) → rosterGood (tilesOf file) (fileEntries file) ≡ true → fileEntries file ≡ rosterOf (tilesOf file)
+  only : TilesPass m file → Ends (section file) → Rises (section file) → rosterGood (tilesOf file) (fileEntries file) ≡ true → fileEntries file ≡ rosterOf (tilesOf file)
   only l w r g =
       let rs = section file in
-      roster-only (listed-valid l) (tiles-accounts (fileWords file)) (rise-rising (entryCount rs) 0 rs 1 (whole-passed rs w r)) (told-true (test-good (tilesOf file) (fileEntries file)) g)
+      roster-only (pass-valid l) (tiles-accounts (fileWords file)) (rise-rising (entryCount rs) 0 rs 1 (rises-pass rs (omega (arith, w)) r)) (told-true (test-good (tilesOf file) (fileEntries file)) g)
 
-  roster-good : Listed m file → fileEntries file ≡ rosterOf (tilesOf file) → rosterGood (tilesOf file) (fileEntries file) ≡ true
-  roster-good l e = rw e (rosterOf-good (listed-valid l) (tiles-accounts (fileWords file)))
+  roster-good : TilesPass m file → fileEntries file ≡ rosterOf (tilesOf file) → rosterGood (tilesOf file) (fileEntries file) ≡ true
+  roster-good l e = rw e (rosterOf-good (pass-valid l) (tiles-accounts (fileWords file)))
 
   -- an entry of account 0 is not of the roster
-  nobody-wrong : Listed m file → 0 < entryCount (section file) → entryAccount (section file) 0 ≡ 0 → rosterGood (tilesOf file) (fileEntries file) ≡ false
+  nobody-wrong : TilesPass m file → 0 < entryCount (section file) → entryAccount (section file) 0 ≡ 0 → rosterGood (tilesOf file) (fileEntries file) ≡ false
   nobody-wrong l h z = test-false (test-good (tilesOf file) (fileEntries file)) (λ r.
-      let n : covered 0 (tilesOf file) ≡ 0 = covered-nobody (listed-valid l) in
+      let n : covered 0 (tilesOf file) ≡ 0 = covered-nobody (pass-valid l) in
       let k = listed-some (fileEntries file) _ (first-entry (section file) (entryCount (section file)) 1 h) in
       omega (arith, rw z at k, r .once 0, if-no {A = ℕ} 1 0 (test-leb 1 (covered 0 (tilesOf file))) (λ c. omega arith)))
 
--- an account a second time: an entry falls by then, so that they do not rise
+-- an account a second time: by then an entry is not above the one ahead of it, so that they do not rise
 module _ (rs : List ℕ) (i j : ℕ) (h : i < j) (b : j < entryCount rs) (e : entryAccount rs j ≡ entryAccount rs i) where
   again : (k : ℕ) × (k < j) × (entryAccount rs (k + 1) ≤ entryAccount rs k)
   again = falls-between (λ x. entryAccount rs x) i j h (omega arith)
 
-  again-falls : 1 + 5 * (j + 1) ≤ length rs → Falls rs
-  again-falls l = let k = again in (k .0, omega (arith, k .1), omega (arith, k .1), k .2)
+  again-unsorted : 1 + 5 * (j + 1) ≤ length rs → Unsorted rs
+  again-unsorted l = let k = again in (k .0, omega (arith, k .1), omega (arith, k .1), k .2)
 
   again-not : Rises rs → ⊥
   again-not r = let k = again in omega (arith, k .2, r (k .0) (omega (arith, k .1)))
@@ -114,15 +114,26 @@ module _ (file slots : List ℕ) where
   rs = section file
 
   -- the reader's number is the section's, and where the section gives it, what is ahead passes
-  from : {x : ℕ} → ((y : ℕ) → 0 < y → y ≤ fileCutShort → y ≡ x → ⊥) → readOf file slots .answer .number ≡ x → Listed m file × (rosterCheck ts rs ≡ x)
-  from h e = number-listed m file h (sym (read-number file slots) ∙ e)
+  from : {x : ℕ} → ((y : ℕ) → 0 < y → y ≤ fileCutShort → y ≡ x → ⊥) → readOf file slots .answer .number ≡ x → TilesPass m file × (rosterCheck ts rs ≡ x)
+  from h e = number-pass m file h (sym (read-number file slots) ∙ e)
 
-  to : {x : ℕ} → Listed m file → rosterCheck ts rs ≡ x → readOf file slots .answer .number ≡ x
-  to l e = read-number file slots ∙ listed-number m file l ∙ e
+  to : {x : ℕ} → TilesPass m file → rosterCheck ts rs ≡ x → readOf file slots .answer .number ≡ x
+  to l e = read-number file slots ∙ pass-number m file l ∙ e
 
   roster-read : RosterRead file slots
   roster-read = record {
     unsorted = (λ e. let p = from (λ y g l q. omega arith) e in (p .0, section-unsorted ts rs .0 (p .1)), λ p. to (p .0) (section-unsorted ts rs .1 (p .1)));
+    cut = λ l. (
+      λ e. let s = section-cut ts rs .0 (sym (to l refl) ∙ e) in (s .0, omega (arith, s .1)),
+      λ p. to l (section-cut ts rs .1 (p .0, omega (arith, p .1))),
+    );
+    more = (
+      λ e.
+          let p = from (λ y g l q. omega arith) e in
+          let s = section-more ts rs .0 (p .1) in
+          (p .0, s .0, omega (arith, s .1)),
+      λ p. to (p .0) (section-more ts rs .1 (p .1, omega (arith, p .2))),
+    );
     wrong = (
       λ e.
           let p = from (λ y g l q. omega arith) e in
@@ -137,7 +148,7 @@ module _ (file slots : List ℕ) where
           (p .0, s .0, only m file (p .0) (s .0) (s .1) (s .2)),
       λ p. to (p .0) (section-accepts ts rs .1 (p .1, roster-rises file (p .2), roster-good m file (p .0) (p .2))),
     );
-    repeated = λ i j h b e l k. to l (section-unsorted ts rs .1 (again-falls rs i j h b e k));
+    repeated = λ i j h b e l k. to l (section-unsorted ts rs .1 (again-unsorted rs i j h b e (omega (arith, k))));
     never = λ i j h b e x. again-not rs i j h b e (section-wrong ts rs .0 (from (λ y g l q. omega arith) x .1) .1);
     nobody = λ l w r h z. to l (section-wrong ts rs .1 (w, r, nobody-wrong m file l h z));
   }
@@ -160,4 +171,4 @@ writes-sorted = record { entries = λ scan slots file e. entries scan slots file
         let ts = tilesIn (scan .tiles) slots in
         let bytes = fileOf (scan .order) ts in
         let a = fileOf-accepted (scan .order) ts (v .order) (v .valid) (slots-accounts (scan .tiles) slots) (length ts) (omega arith) in
-        rw (written-file scan slots file e) (section-accepts (tilesOf bytes) (section bytes) .0 (number-listed (length ts) bytes (λ y g l q. omega arith) a .1) .1)
+        rw (written-file scan slots file e) (section-accepts (tilesOf bytes) (section bytes) .0 (number-pass (length ts) bytes (λ y g l q. omega arith) a .1) .1)

@@ -97,10 +97,10 @@ fn entry_of(file: Layout, entry: usize, account: Account) -> String {
 fn unsorted_roster(file: Layout) -> Vec<String> {
     let accounts: Vec<Account> = file.roster().into_iter().map(|(account, _)| account).collect();
     let Some(ahead) = accounts.windows(2).position(|pair| pair[1] <= pair[0]) else { return Vec::new() };
-    let (account, above) = (accounts[ahead + 1], accounts[ahead]);
-    let wrong = match account == above {
+    let (account, earlier) = (accounts[ahead + 1], accounts[ahead]);
+    let wrong = match account == earlier {
         true => "again, as in".to_owned(),
-        false => format!("is below account {} of", above.0),
+        false => format!("is below account {} of", earlier.0),
     };
     let (here, begins) = (entry_of(file, ahead + 1, account), file.entry_begins(ahead));
     vec![

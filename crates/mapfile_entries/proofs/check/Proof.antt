@@ -74,7 +74,16 @@ roster-good-requires c κs =
     let p = c .before .before .before .before .before .before .before .before .before .pre in
     let e = sym (c .before .before .entries-rise .ensures) ∙ c .before .if2 .left in
     let a = c .before .before .before .before .before .before .before .before .before .args in
-    (p .0, p .1, p .2, rise-room (c .before .before .before .long .result) 0 (a .section .now) 1 (omega arith) e, e)
+    let long = c .before .before .before .long in
+    let bytes = c .before .before .before .before .before .shared-slice-known3 in (
+      p .0,
+      p .1,
+      p .2,
+      p .3,
+      omega (arith, long .ensures, c .before .before .before .before .wide .ensures, bytes .given 0),
+      rise-room (long .result) 0 (a .section .now) 1 (omega arith) e,
+      e,
+    )
 
 pub check-spec : {M : Type 1} → statement M
 check-spec =

@@ -20,32 +20,32 @@ returns-4 : tie.Need-returns-4
 returns-4 c = c .refused4 .ensures ∙ few-slots _ _ (omega arith) (omega arith) (omega arith)
 
 returns-5 : tie.Need-returns-5
-returns-5 c = c .refused5 .ensures ∙ words-refused _ _ (search needs) _ (c .before .before .words .ensures) (omega arith)
+returns-5 c = c .refused5 .ensures ∙ words-refused _ _ (search needs) _ (c .before .before .words .ensures .0) (omega arith)
 
 returns-6 : tie.Need-returns-6
 returns-6 c =
-    let w = sym (c .before .before .before .before .before .words .ensures) ∙ c .before .before .before .before .if5 .left in
+    let w = sym (c .before .before .before .before .before .words .ensures .0) ∙ c .before .before .before .before .if5 .left in
     c .refused6 .ensures ∙ roster-refused _ _ (search needs) w _ (c .before .before .check .ensures) (omega arith)
 
 returns-7 : tie.Need-returns-7
 returns-7 c =
-    let w = sym (c .before .before .before .before .words .ensures) ∙ c .before .before .before .if5 .left in
+    let w = sym (c .before .before .before .before .words .ensures .0) ∙ c .before .before .before .if5 .left in
     accepts _ _ (search needs) w _ (c .before .check .ensures) (c .if6 .left)
 
 sub-check : tie.Need-sub-check
 sub-check c =
-    let w = tilesCheck-valid _ (omega arith) _ _ (omega arith) (sym (c .before .words .ensures) ∙ c .if5 .left) in
+    let w = tilesCheck-valid _ (omega arith) _ _ (omega arith) (sym (c .before .words .ensures .0) ∙ c .if5 .left) in
     omega (arith, w .0)
 
 part-check-start : tie.Need-part-check-start
 part-check-start c =
-    let w = tilesCheck-valid _ (omega arith) _ _ (omega arith) (sym (c .before .words .ensures) ∙ c .if5 .left) in
+    let w = tilesCheck-valid _ (omega arith) _ _ (omega arith) (sym (c .before .words .ensures .0) ∙ c .if5 .left) in
     omega (arith, w .0)
 
 check-requires : tie.Need-check-requires
 check-requires c κs =
-    let w = tilesCheck-valid _ (omega arith) _ _ (omega arith) (sym (c .before .before .words .ensures) ∙ c .before .if5 .left) in
-    (omega arith, w .0, w .1)
+    let w = tilesCheck-valid _ (omega arith) _ _ (omega arith) (sym (c .before .before .words .ensures .0) ∙ c .before .if5 .left) in
+    (omega arith, w .0, w .1, c .before .before .words .ensures .1 (c .before .if5 .left))
 
 pub examine-spec : {M : Type 1} → statement M
 examine-spec =
