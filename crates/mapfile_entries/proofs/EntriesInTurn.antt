@@ -2,6 +2,7 @@
 --     rise-start, -cut, -low, -on, -end   each entry is there, and its account is above the one ahead of it
 --     rise-room, rise-rising              entries that are accepted are there, and their accounts rise
 --     rise-other                          they are accepted where the number is neither 41 nor 54
+--     right-some                          an entry whose account has pixels is judged by their number
 --     right-start, -stop, -on, -end       each entry has the pixels of its account, of which there are some
 --     sum-start, -on, -end                the pixels that the entries say they have, by those from p on
 use mathlib.Core.Path.{_≡_, refl, sym, _∙_}
@@ -10,14 +11,16 @@ use mathlib.Core.List.{List}
 use Prim.Native.Nat.{ℕ, zero, suc, _+_, _-_, _*_, _≤_, _<_}
 use native.Mathlib.Omega.{arith}
 use native.Mathlib.Numerals.{add-one}
+use lib.Dec.{eqb}
 use lib.ListN.{length, getD}
-use borrow.Author.Tests.{lt-leb, le-leb}
+use borrow.Author.Tests.{lt-leb, le-leb, lt-ltb}
 use Rattle.basics.proofs.Tests.{test-leb}
 use Rattle.refusal.specs.Refusal.{accepted, fileCutShort, rosterUnsorted}
 use Rattle.refusal.specs.Checks.{must}
 use Rattle.refusal.proofs.CheckLaws.{must-pass, must-inv, must-other}
 use Rattle.tile.specs.Tile.{Tile}
 use Rattle.mapfile_bytes.specs.Items.{wordAt}
+use Rattle.mapfile_roster.specs.Roster.{covered, Entry}
 use Rattle.mapfile_roster.proofs.RosterLaws.{ByAccount, end, link}
 use Rattle.mapfile_entries.specs.RosterCheck.{entriesAt, entriesCheck}
 use Rattle.mapfile_entries.specs.Pixels.{pixelsIn, entryRight, entriesRight}
@@ -68,6 +71,10 @@ rise-other (suc q) least rs p f g e =
     let a = must-other (test-leb (p + 5) (length rs)) f e in
     let b = must-other (test-leb least (getD rs p 0)) g (a .1) in
     must-pass fileCutShort (test-leb (p + 5) (length rs)) (a .0) (must-pass rosterUnsorted (test-leb least (getD rs p 0)) (b .0) (rise-other q (suc (getD rs p 0)) rs (p + 5) f g (b .1)))
+
+pub right-some : (ts : List Tile) (e : Entry) (x w : ℕ) → x ≡ covered (e .account) ts → w ≡ e .pixels → 0 < x → eqb w x ≡ entryRight ts e
+unfolding entryRight
+right-some ts e x w ex ew h = sym (rw (← ex, ← ew, lt-ltb 0 x h))
 
 module _ (ts : List Tile) (q : ℕ) (rs : List ℕ) where
   pub right-start : entriesRight ts (entriesAt q rs 1) ≡ entriesRight ts (entriesAt (q - 0) rs 1)

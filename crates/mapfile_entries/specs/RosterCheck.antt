@@ -2,8 +2,8 @@
 -- 02, request 7). Definitions only.
 --     entriesAt q rs p            the q roster entries from p on
 --     entriesCheck q least rs p   q entries from p on, one by one: 41 where the bytes end before it, then 54 where its
---                                 account is below `least`: that is 0 for the first entry, which has none ahead of it,
---                                 and for each other one above the account ahead of it
+--                                 account is below `least`. That is 0 for the first entry, which has none ahead of it,
+--                                 and from then on the account ahead plus 1
 --     rosterCheck ts rs           the roster section rs: 41 for its count, 41 and 54 entry by entry, 42, 43
 use mathlib.Core.List.{List, [], _∷_}
 use Prim.Native.Nat.{ℕ, zero, suc, _+_}

@@ -16,10 +16,9 @@ use native.Mathlib.Omega.{arith}
 use lib.ListN.{length, take, drop, length-map}
 use lib.Dec.{leb}
 use lib.Seq.{drop-drop, drop-at, take-at}
-use borrow.Author.Tests.{le-leb}
 use Rattle.basics.proofs.Tests.{test-leb}
 use Rattle.refusal.specs.Refusal.{accepted, bytesTooFew, unscanned}
-use Rattle.refusal.specs.Checks.{must, orElse, After}
+use Rattle.refusal.specs.Checks.{After}
 use Rattle.refusal.proofs.CheckLaws.{must-inv, must-not, else-on, else-off, else-inv, unless-number}
 use Rattle.tile.specs.Tile.{Tile, tileOf, wordOf, highestOrder, highestAccount}
 use Rattle.tile.specs.Slots.{tilesIn, filled}
@@ -43,9 +42,8 @@ use Rattle.mapfile_bytes.proofs.ItemsLaws.{word-whole}
 use Rattle.mapfile_roster.specs.Roster.{Entry, rosterOf}
 use Rattle.mapfile_roster.proofs.CoveredLaws.{covered-fits}
 use Rattle.mapfile_roster.proofs.RosterLaws.{rosterOf-rising, rosterOf-good, rosterOf-pixels}
-use Rattle.mapfile_entries.specs.RosterCheck.{rosterCheck}
-use Rattle.mapfile_read.specs.Reader.{tilesCheck, fileOrder, fileCount, fileCheck, readOf}
-use Rattle.mapfile_read.proofs.ReaderLaws.{tilesCheck-words, readOf-accepted}
+use Rattle.mapfile_read.specs.Reader.{fileOrder, fileCount, fileCheck, readOf}
+use Rattle.mapfile_read.proofs.ReaderLaws.{fileCheck-roster, tilesCheck-words, readOf-accepted}
 use Rattle.mapfile_sections.specs.Sections.{wordsBytes, entriesBytes}
 use Rattle.mapfile_write.specs.declared.Written.{Written}
 use Rattle.mapfile_write.specs.Writer.{fileOf, readyCheck, writeCheck, writeOf}
@@ -53,11 +51,6 @@ use Rattle.mapfile_write.proofs.WriterLaws.{length-wordsBytes, fileOf-bytes, wr
 use Rattle.mapfile_laws.specs.RoundTrip.{ReadWritten, WrittenWhole, WritesScanned}
 use Rattle.mapfile_laws.specs.Totals.{fileEntries}
 use Rattle.mapfile_laws.proofs.Back.{words-back, entries-back, roster-back}
-
--- a file is accepted where its items are
-accept : (m n t : ℕ) (bs rs : List ℕ) (ts : List Tile) → 5 ≤ length bs → fileOrder bs ≡ n → n ≤ highestOrder → fileCount bs ≡ t → t ≤ m → tilesCheck n t [] bs 5 ≡ accepted → map tileOf (wordsAt t bs 5) ≡ ts → drop (5 + 4 * t) bs ≡ rs → rosterCheck ts rs ≡ accepted → fileCheck m bs ≡ accepted
-unfolding fileCheck must orElse
-accept m n t bs rs ts l en o et c e1 e2 e3 e4 = simp (en, et, le-leb 1 (length bs) (omega arith), le-leb n highestOrder o, le-leb 5 (length bs) l, le-leb t m c, e1, e2, e3, e4)
 
 module _ (n : ℕ) (ts : List Tile) (o : n ≤ highestOrder) (v : Valid n ts) (a : (t : Tile) → t ∈ ts → t .account ≤ highestAccount) where
   packable : (t : Tile) → t ∈ ts → Packable t
@@ -99,9 +92,9 @@ module _ (n : ℕ) (ts : List Tile) (o : n ≤ highestOrder) (v : Valid n ts) (a
 
   pub fileOf-accepted : (m : ℕ) → length ts ≤ m → fileCheck m (fileOf n ts) ≡ accepted
   fileOf-accepted m c =
-      accept m n (length ts) (fileOf n ts) (length (rosterOf ts) ∷ entriesBytes (rosterOf ts)) ts (omega (arith, fileOf-bytes n ts)) order-back o count-back c
-      (tilesCheck-words n (length ts) [] (fileOf n ts) 5 (omega (arith, fileOf-bytes n ts)) words-pass) tiles-back rest-back
-      (roster-back ts (rosterOf ts) (rosterOf-rising ts) (rosterOf-good v a) entry-low)
+      fileCheck-roster m (fileOf n ts) (omega (arith, fileOf-bytes n ts)) (rw order-back o) (rw count-back c)
+      (rw (order-back, count-back) (tilesCheck-words n (length ts) [] (fileOf n ts) 5 (omega (arith, fileOf-bytes n ts)) words-pass))
+      ∙ rw (count-back, tiles-back, rest-back) (roster-back ts (rosterOf ts) (rosterOf-rising ts) (rosterOf-good v a) entry-low)
 
   pub read-write : (slots : List ℕ) → length ts ≤ length slots →
       readOf (fileOf n ts) slots ≡ record { answer = record { number = accepted; order = n; tiles = length ts }; storage = filled (length slots) ts }

@@ -7,7 +7,7 @@ use mathlib.Core.Path.{_≡_, ap, sym, _∙_}
 use mathlib.Core.Bool.{true}
 use mathlib.Core.List.{List, _++_, map, List·Memᴰ}
 use mathlib.Core.Logic.{_↔_}
-use Prim.Native.Nat.{ℕ, zero, suc, _+_, _-_, _*_, _^_, _≤_}
+use Prim.Native.Nat.{ℕ, zero, suc, _+_, _-_, _^_, _≤_}
 use native.Mathlib.Nat.{add-zero}
 use native.Mathlib.Decide.{decLe}
 use native.Mathlib.Omega.{arith}
@@ -18,9 +18,9 @@ use Rattle.basics.specs.Choice.{if, count, tabulate}
 use Rattle.basics.proofs.Tests.{test-leb, told-true, test-true}
 use Rattle.basics.proofs.ChoiceLaws.{if-no}
 use Rattle.basics.proofs.CountLaws.{count-moved}
-use Rattle.refusal.specs.Refusal.{accepted, fileCutShort, trailingBytes, rosterWrong, rosterUnsorted}
-use Rattle.refusal.specs.Checks.{must, After}
-use Rattle.refusal.proofs.CheckLaws.{must-on, must-inv, must-other, else-other}
+use Rattle.refusal.specs.Refusal.{accepted, rosterWrong}
+use Rattle.refusal.specs.Checks.{After}
+use Rattle.refusal.proofs.CheckLaws.{must-on, must-inv}
 use Rattle.tile.specs.Tile.{Tile, tileOf}
 use Rattle.tile.specs.Slots.{tilesIn}
 use Rattle.quadtree.specs.Raster.{accountAt}
@@ -41,7 +41,7 @@ use Rattle.mapfile_roster.proofs.CoveredLaws.{covered-pixels, covered-nobody}
 use Rattle.mapfile_roster.proofs.GoodLaws.{Right, test-good, listed-some}
 use Rattle.mapfile_roster.proofs.RosterLaws.{rosterOf-good}
 use Rattle.mapfile_entries.specs.RosterCheck.{entriesAt, rosterCheck}
-use Rattle.mapfile_entries.proofs.EntriesInTurn.{rise-other}
+use Rattle.mapfile_entries.proofs.SectionLaws.{behind-all}
 use Rattle.mapfile_read.specs.Reader.{fileOrder, fileCount, fileWords, fileCheck}
 use Rattle.mapfile_read.proofs.ReaderLaws.{Passed, readOf-valid, readOf-accepted, readOf-wrong}
 use Rattle.mapfile_write.specs.Writer.{writeCheck, writeOf}
@@ -125,23 +125,16 @@ written-tallies scan slots file raster e l =
     rw (decoded-rows n t slots raster list l, written-file scan slots file e, fileOf-entries n (tilesIn t slots) (v .order) (v .valid) (slots-accounts t slots))
     (good-tallies (v .valid) .0 (rosterOf-good (v .valid) (slots-accounts t slots)))
 
--- a roster section that is neither cut short nor unsorted nor too long is judged by its entries
+-- a roster section that is accepted, or refused by 43, is judged by its entries
 module _ (ts : List Tile) (section : List ℕ) where
   abbrev entries : List Entry
   entries = entriesAt (getD section 0 0) section 1
 
-  judged : {x : ℕ} → (fileCutShort ≡ x → ⊥) → (rosterUnsorted ≡ x → ⊥) → (trailingBytes ≡ x → ⊥) → rosterCheck ts section ≡ x → must (rosterGood ts entries) rosterWrong accepted ≡ x
-  unfolding rosterCheck
-  judged short low long e =
-      let a = must-other (test-leb 1 (length section)) short e in
-      let b = else-other _ _ (λ h q. omega (arith, rise-other (getD section 0 0) 0 section 1 short low q)) (a .1) in
-      must-other (test-leb (length section) (1 + 5 * getD section 0 0)) long (b .1) .1
-
   roster-right : rosterCheck ts section ≡ accepted → Right ts entries
-  roster-right e = must-inv (test-good ts entries) (omega arith) (judged (λ q. omega arith) (λ q. omega arith) (λ q. omega arith) e) .0
+  roster-right e = must-inv (test-good ts entries) (omega arith) (behind-all ts section (λ q. omega arith) (λ q. omega arith) (λ q. omega arith) e .rest) .0
 
   roster-wrong : rosterCheck ts section ≡ rosterWrong → Right ts entries → ⊥
-  roster-wrong e r = omega (arith, judged (λ q. omega arith) (λ q. omega arith) (λ q. omega arith) e, must-on rosterWrong accepted (test-good ts entries) r)
+  roster-wrong e r = omega (arith, behind-all ts section (λ q. omega arith) (λ q. omega arith) (λ q. omega arith) e .rest, must-on rosterWrong accepted (test-good ts entries) r)
 
 refused-tallies : (m : ℕ) (file : List ℕ) → fileCheck m file ≡ rosterWrong → Tallies (rows (fileOrder file) (accountAt (map tileOf (fileWords file)))) (fileEntries file) → ⊥
 refused-tallies m file e t = let w = readOf-wrong m file e in roster-wrong _ _ (w .roster) (tallies-right (w .valid) t)

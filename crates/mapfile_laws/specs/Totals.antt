@@ -2,6 +2,7 @@
 -- Definitions only. The decoded raster is what decode leaves, 4 ^ order bytes. Accounts are from 1 on: there is no tile
 -- for nobody's pixels, and no total.
 --     occurs a bytes      how many of the bytes are a
+--     section file        the roster section of a file: the count of its entries, and the entries
 --     fileEntries file    the entries of a file's roster
 --     Tallies raster es   the entries es, wherever they stand, are what the raster has: an account with pixels there
 --                         has one entry, and its total is the number of these pixels; no other account has an entry
@@ -33,10 +34,11 @@ unfoldable pub occurs : ℕ → List ℕ → ℕ
 occurs a [] = 0
 occurs a (b ∷ bytes) = if (eqb b a) 1 0 + occurs a bytes
 
+abbrev pub section : List ℕ → List ℕ
+section file = drop (rosterPlace (fileCount file)) file
+
 abbrev pub fileEntries : List ℕ → List Entry
-fileEntries file =
-    let section : List ℕ = drop (rosterPlace (fileCount file)) file in
-    entriesAt (getD section 0 0) section entriesPlace
+fileEntries file = entriesAt (getD (section file) 0 0) (section file) entriesPlace
 
 pub record Tallies (raster : List ℕ) (es : List Entry) : Type 0 where
   pub totals : (e : Entry) → List·Memᴰ e es → e .pixels ≡ occurs (e .account) raster

@@ -19,7 +19,7 @@ use Rattle.mapfile_entries.specs.RosterCheck.{rosterCheck}
 use Rattle.mapfile_read.specs.declared.Reading.{Reading}
 use Rattle.mapfile_read.specs.Reader.{tilesCheck, fileOrder, fileCount, fileWords, fileCheck, readOf}
 use Rattle.mapfile_read.specs.Examined.{refusedWith, examined}
-use Rattle.mapfile_read.proofs.ReaderLaws.{readOf-valid, readOf-accepted}
+use Rattle.mapfile_read.proofs.ReaderLaws.{fileCheck-behind, readOf-valid, readOf-accepted}
 use Rattle.mapfile_read.proofs.ReadStores.{store-clear, part-end}
 
 pub record Head (m : ℕ) (bs : List ℕ) (n t : ℕ) : Type 0 where
@@ -54,10 +54,7 @@ module _ (m : ℕ) (bs : List ℕ) where
 
   module _ {n t : ℕ} (head : Head m bs n t) where
     behind : fileCheck m bs ≡ orElse (tilesCheck n t [] bs 5) (rosterCheck (map tileOf (wordsAt t bs 5)) (drop (5 + 4 * t) bs))
-    unfolding fileCheck must
-    behind =
-        let z : 1 ≤ length bs = omega arith in
-        simp (← head .order, ← head .count, le-leb _ _ z, le-leb _ _ (head .small), le-leb _ _ (head .whole), le-leb _ _ (head .slots))
+    behind = rw (head .order, head .count) (fileCheck-behind m bs (head .whole) (omega (arith, head .order, head .small)) (omega (arith, head .count, head .slots)))
 
     pub words-refused : (r : ℕ) → r ≡ tilesCheck n t [] bs 5 → 0 < r → refusedWith r ≡ examined m bs
     words-refused r e h = refusal r (behind ∙ else-off _ _ (λ z. omega arith) ∙ sym e) h

@@ -5,7 +5,7 @@
 --     fileCheck-passed   a file whose number no item ahead of the roster gives is so: ..
 --     readOf-valid       .. one that the reader accepts, ..
 --     readOf-wrong       .. and one that it refuses by 43
---     fileCheck-roster   the number of a file of which all but the roster passes is the roster's
+--     fileCheck-behind   the number of a file whose head passes is that of its words, or else the roster's; fileCheck-roster, the roster's where the words pass
 --     readOf-accepted    what the reader then answers and leaves
 use mathlib.Core.Path.{_≡_, refl, sym, _∙_}
 use mathlib.Core.List.{List, [], _∷_, _++_, map}
@@ -14,6 +14,7 @@ use native.Mathlib.Omega.{arith}
 use lib.ListN.{length, drop, replicate}
 use Rattle.basics.proofs.Tests.{test-leb}
 use Rattle.refusal.specs.Refusal.{accepted, orderTooLarge, slotsExceeded, fileCutShort, rosterWrong}
+use Rattle.refusal.specs.Checks.{orElse}
 use Rattle.refusal.proofs.CheckLaws.{must-on, must-inv, must-other, must-low, else-on, else-inv, else-other, else-low, unless-on}
 use Rattle.tile.specs.Tile.{Tile, tileOf, highestOrder}
 use Rattle.quadtree.specs.Valid.{Valid}
@@ -85,12 +86,15 @@ readOf-valid m bs = fileCheck-passed m bs (λ y g l q. omega arith)
 pub readOf-wrong : (m : ℕ) (bs : List ℕ) → fileCheck m bs ≡ rosterWrong → Passed m bs rosterWrong
 readOf-wrong m bs = fileCheck-passed m bs (λ y g l q. omega arith)
 
-pub fileCheck-roster : (m : ℕ) (bs : List ℕ) → 5 ≤ length bs → fileOrder bs ≤ highestOrder → fileCount bs ≤ m → tilesCheck (fileOrder bs) (fileCount bs) [] bs 5 ≡ accepted →
-    fileCheck m bs ≡ rosterCheck (map tileOf (fileWords bs)) (drop (5 + 4 * fileCount bs) bs)
-unfolding fileCheck
-fileCheck-roster m bs h o c w =
-    must-on fileCutShort _ (test-leb 1 (length bs)) (omega arith) ∙ must-on orderTooLarge _ (test-leb (fileOrder bs) highestOrder) o ∙ must-on fileCutShort _ (test-leb 5 (length bs)) h
-    ∙ must-on slotsExceeded _ (test-leb (fileCount bs) m) c ∙ else-on _ _ w
+module _ (m : ℕ) (bs : List ℕ) (h : 5 ≤ length bs) (o : fileOrder bs ≤ highestOrder) (c : fileCount bs ≤ m) where
+  pub fileCheck-behind : fileCheck m bs ≡ orElse (tilesCheck (fileOrder bs) (fileCount bs) [] bs 5) (rosterCheck (map tileOf (fileWords bs)) (drop (5 + 4 * fileCount bs) bs))
+  unfolding fileCheck
+  fileCheck-behind =
+      must-on fileCutShort _ (test-leb 1 (length bs)) (omega arith) ∙ must-on orderTooLarge _ (test-leb (fileOrder bs) highestOrder) o ∙ must-on fileCutShort _ (test-leb 5 (length bs)) h
+      ∙ must-on slotsExceeded _ (test-leb (fileCount bs) m) c
+
+  pub fileCheck-roster : tilesCheck (fileOrder bs) (fileCount bs) [] bs 5 ≡ accepted → fileCheck m bs ≡ rosterCheck (map tileOf (fileWords bs)) (drop (5 + 4 * fileCount bs) bs)
+  fileCheck-roster w = fileCheck-behind ∙ else-on _ _ w
 
 pub readOf-accepted : (bs slots : List ℕ) → fileCheck (length slots) bs ≡ accepted →
     readOf bs slots ≡ record { answer = record { number = accepted; order = fileOrder bs; tiles = fileCount bs }; storage = fileWords bs ++ replicate (length slots - fileCount bs) 0 }

@@ -28,9 +28,9 @@ use Rattle.mapfile_read.specs.declared.Reading.{Reading}
 use Rattle.mapfile_read.specs.Reader.{fileOrder, fileCount, fileWords, fileCheck, readOf}
 use Rattle.mapfile_read.proofs.ReaderLaws.{fileCheck-passed, fileCheck-roster, tilesCheck-valid}
 use Rattle.mapfile_write.specs.Writer.{fileOf, writeCheck, writeOf}
-use Rattle.mapfile_laws.specs.Totals.{fileEntries}
+use Rattle.mapfile_laws.specs.Totals.{section, fileEntries}
 use Rattle.mapfile_laws.proofs.RoundTrip.{fileOf-entries, fileOf-accepted, tiles-accounts, slots-accounts, write-number, write-passed, written-file}
-use Rattle.mapfile_sorted.specs.Sorted.{section, entryCount, entryAccount, Rises, Unsorted, Ends, TilesPass, tilesOf, WritesSorted, RosterRead, ReadsSorted}
+use Rattle.mapfile_sorted.specs.Sorted.{entryCount, entryAccount, Rises, Unsorted, Ends, TilesPass, tilesOf, WritesSorted, RosterRead, ReadsSorted}
 use Rattle.mapfile_sorted.proofs.Section.{falls-between, rises-pass, section-unsorted, section-cut, section-more, section-wrong, section-accepts}
 
 -- the entries of a section by rising account, by their places

@@ -6,7 +6,7 @@
 --     section-more       42 just where bytes follow entries that rise
 --     section-wrong      43 just where none do, and the entries are not the roster of the tiles
 --     section-accepts    and accepted where they are
-use mathlib.Core.Path.{_≡_, refl, ap, sym, _∙_}
+use mathlib.Core.Path.{_≡_, refl, sym, _∙_}
 use mathlib.Core.Bool.{Bool, true, false}
 use mathlib.Core.List.{List}
 use mathlib.Core.Logic.{_↔_}
@@ -18,11 +18,12 @@ use lib.ListN.{length, getD}
 use Rattle.basics.proofs.Tests.{test-leb}
 use Rattle.refusal.specs.Refusal.{accepted, fileCutShort, trailingBytes, rosterWrong, rosterUnsorted}
 use Rattle.refusal.specs.Checks.{must, orElse}
-use Rattle.refusal.proofs.CheckLaws.{must-on, must-off, must-other, must-not, else-on, else-off, else-other, else-not}
+use Rattle.refusal.proofs.CheckLaws.{must-on, must-off, must-other, must-not, else-on, else-off, else-not}
 use Rattle.tile.specs.Tile.{Tile}
 use Rattle.mapfile_roster.specs.Roster.{Entry, rosterGood}
 use Rattle.mapfile_entries.specs.RosterCheck.{entriesAt, entriesCheck, rosterCheck}
 use Rattle.mapfile_entries.proofs.EntriesInTurn.{rise-room, rise-other}
+use Rattle.mapfile_entries.proofs.SectionLaws.{Compared, behind-entries, behind-all, compared}
 use Rattle.mapfile_sorted.specs.Sorted.{entryCount, entryAccount, Rises, Unsorted, Ends}
 use Rattle.mapfile_sorted.proofs.Entries.{ahead, low-found, low-refused, cut-found}
 
@@ -82,14 +83,6 @@ unfolding must
 right-true true e = refl
 right-true false e = absurd (omega arith)
 
-must-wrong : must false rosterWrong accepted ≡ rosterWrong
-unfolding must
-must-wrong = refl
-
-must-right : must true rosterWrong accepted ≡ accepted
-unfolding must
-must-right = refl
-
 by-equal : (x y : ℕ) → ((x ≡ y → ⊥) → ⊥) → x ≡ y
 by-equal x y f = elim (decLe x y) [
   | yes h ↦ elim (decLe y x) [ yes g ↦ omega arith | no g ↦ absurd (f (λ e. omega arith)) ]
@@ -118,25 +111,11 @@ module _ (ts : List Tile) (rs : List ℕ) where
   abbrev entries : List Entry
   entries = entriesAt (entryCount rs) rs 1
 
-  -- a number that is of neither the bytes nor the entries is of the comparison with the tiles
-  record Compared (x : ℕ) : Type 0 where
-    pub whole : Ends rs
-    pub rises : Rises rs
-    pub rest : must (rosterGood ts entries) rosterWrong accepted ≡ x
-
-  compared : {x : ℕ} → (fileCutShort ≡ x → ⊥) → (rosterUnsorted ≡ x → ⊥) → (trailingBytes ≡ x → ⊥) → rosterCheck ts rs ≡ x → Compared x
-  unfolding rosterCheck
-  compared short low long e =
-      let a = must-other (test-leb 1 (length rs)) short e in
-      let b = else-other _ _ (λ h q. omega (arith, rise-other (entryCount rs) 0 rs 1 short low q)) (a .1) in
-      let c = must-other (test-leb (length rs) (1 + 5 * entryCount rs)) long (b .1) in
-      record { whole = omega (arith, c .0, rise-room (entryCount rs) 0 rs 1 (a .0) (b .0)); rises = rises-passed rs (a .0) (b .0); rest = c .1 }
-
   comparing : Ends rs → Rises rs → rosterCheck ts rs ≡ must (rosterGood ts entries) rosterWrong accepted
-  unfolding rosterCheck
-  comparing w r =
-      must-on fileCutShort _ (test-leb 1 (length rs)) (omega (arith, w)) ∙ else-on _ _ (rises-pass rs (omega (arith, w)) r)
-      ∙ must-on trailingBytes _ (test-leb (length rs) (1 + 5 * entryCount rs)) (omega (arith, w))
+  comparing w r = compared ts rs (entryCount rs) refl (omega (arith, w)) (rises-pass rs (omega (arith, w)) r) (omega (arith, w)) refl
+
+  ends : {x : ℕ} → Compared ts rs x → Ends rs
+  ends c = omega (arith, c .upto, rise-room (entryCount rs) 0 rs 1 (c .there) (c .pass))
 
   unsorted-there : rosterCheck ts rs ≡ rosterUnsorted → Unsorted rs
   unfolding rosterCheck
@@ -174,13 +153,11 @@ module _ (ts : List Tile) (rs : List ℕ) where
   )
 
   more-follow : rosterCheck ts rs ≡ trailingBytes → Rises rs × (1 + 5 * entryCount rs < length rs)
-  unfolding rosterCheck
   more-follow e =
-      let a = must-other (test-leb 1 (length rs)) (λ q. omega arith) e in
-      let b = else-other _ _ (λ h q. omega (arith, rise-other (entryCount rs) 0 rs 1 (λ x. omega arith) (λ x. omega arith) q)) (a .1) in (
-        rises-passed rs (a .0) (b .0),
+      let b = behind-entries ts rs (λ q. omega arith) (λ q. omega arith) e in (
+        rises-passed rs (b .there) (b .pass),
         elim (decLe (length rs) (1 + 5 * entryCount rs)) [
-          | yes h ↦ absurd (compared-other trailingBytes (λ q. omega arith) (λ q. omega arith) (sym (must-on trailingBytes _ (test-leb (length rs) (1 + 5 * entryCount rs)) h) ∙ b .1))
+          | yes h ↦ absurd (compared-other trailingBytes (λ q. omega arith) (λ q. omega arith) (sym (must-on trailingBytes _ (test-leb (length rs) (1 + 5 * entryCount rs)) h) ∙ b .rest))
           | no h ↦ omega arith
         ],
       )
@@ -201,13 +178,19 @@ module _ (ts : List Tile) (rs : List ℕ) where
   section-more = (more-follow, follow-more)
 
   pub section-wrong : (rosterCheck ts rs ≡ rosterWrong) ↔ (Ends rs × Rises rs × (rosterGood ts entries ≡ false))
+  unfolding must
   section-wrong = (
-    λ e. let c = compared (λ q. omega arith) (λ q. omega arith) (λ q. omega arith) e in (c .whole, c .rises, wrong-false (rosterGood ts entries) (c .rest)),
-    λ p. comparing (p .0) (p .1) ∙ ap (λ (b : Bool). must b rosterWrong accepted) (p .2) ∙ must-wrong,
+    λ e.
+        let c = behind-all ts rs (λ q. omega arith) (λ q. omega arith) (λ q. omega arith) e in
+        (ends c, rises-passed rs (c .there) (c .pass), wrong-false (rosterGood ts entries) (c .rest)),
+    λ p. comparing (p .0) (p .1) ∙ rw (p .2),
   )
 
   pub section-accepts : (rosterCheck ts rs ≡ accepted) ↔ (Ends rs × Rises rs × (rosterGood ts entries ≡ true))
+  unfolding must
   section-accepts = (
-    λ e. let c = compared (λ q. omega arith) (λ q. omega arith) (λ q. omega arith) e in (c .whole, c .rises, right-true (rosterGood ts entries) (c .rest)),
-    λ p. comparing (p .0) (p .1) ∙ ap (λ (b : Bool). must b rosterWrong accepted) (p .2) ∙ must-right,
+    λ e.
+        let c = behind-all ts rs (λ q. omega arith) (λ q. omega arith) (λ q. omega arith) e in
+        (ends c, rises-passed rs (c .there) (c .pass), right-true (rosterGood ts entries) (c .rest)),
+    λ p. comparing (p .0) (p .1) ∙ rw (p .2),
   )

@@ -1,6 +1,6 @@
 -- "Writers shall list the roster by rising account, and readers accept no other order" (document 02, request 7): what
 -- is promised of the two calls. Definitions only. Entries are counted from 0; the entry ahead of entry j + 1 is entry j.
---     section file        the roster section of a file: the count of its entries, and the entries
+-- A roster section rs is a count of entries, and the entries (`section`, mapfile_laws).
 --     entryCount rs       how many entries a section says it has
 --     entryAccount rs j   the account of its entry j
 --     Rises rs            the account of each entry is above that of the entry ahead of it
@@ -15,19 +15,16 @@ use mathlib.Core.Bool.{false}
 use mathlib.Core.List.{List, [], map}
 use mathlib.Core.Logic.{_↔_}
 use Prim.Native.Nat.{ℕ, _+_, _*_, _≤_, _<_}
-use lib.ListN.{length, take, drop, getD}
+use lib.ListN.{length, take, getD}
 use Rattle.refusal.specs.Refusal.{accepted, fileCutShort, trailingBytes, rosterWrong, rosterUnsorted}
 use Rattle.tile.specs.Tile.{Tile, tileOf, highestOrder}
 use Rattle.tile.specs.Slots.{tilesIn}
 use Rattle.bed.specs.declared.Scan.{Scan}
-use Rattle.mapfile_bytes.specs.Layout.{wordsPlace, rosterPlace, entriesPlace, entryLength, rosterLength}
+use Rattle.mapfile_bytes.specs.Layout.{wordsPlace, entriesPlace, entryLength, rosterLength}
 use Rattle.mapfile_roster.specs.Roster.{rosterOf, rosterGood}
 use Rattle.mapfile_read.specs.Reader.{tilesCheck, fileOrder, fileCount, fileWords, readOf}
 use Rattle.mapfile_write.specs.Writer.{writeOf}
-use Rattle.mapfile_laws.specs.Totals.{fileEntries}
-
-abbrev pub section : List ℕ → List ℕ
-section file = drop (rosterPlace (fileCount file)) file
+use Rattle.mapfile_laws.specs.Totals.{section, fileEntries}
 
 abbrev pub entryCount : List ℕ → ℕ
 entryCount rs = getD rs 0 0

@@ -57,7 +57,7 @@ pub record RosterLines : Type 0 where
   -- where all entries rise, 42 comes ahead of 43; an entry behind those that are counted is not asked
   pub more : readM (1 ∷ (entry5 ++ entry9)) ≡ trailingBytes
   pub more-falling : readM (1 ∷ (entry9 ++ entry5)) ≡ trailingBytes
-  -- a first entry of account 0 is not above another, nor below: 43; a second one gives 54
+  -- a first entry of account 0 has none ahead of it and gives 43; a second one gives 54
   pub nobody : readM (3 ∷ (entry0 ++ entry5 ++ entry9)) ≡ rosterWrong
   pub nobody-twice : readM (2 ∷ (entry0 ++ entry0)) ≡ rosterUnsorted
   -- rising entries that are not the roster: one more with a total of 0, also above all accounts; one missing; none

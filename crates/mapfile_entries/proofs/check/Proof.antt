@@ -9,6 +9,7 @@ use Rattle.refusal.specs.Checks.{must, orElse}
 use Rattle.refusal.proofs.CheckLaws.{else-off}
 use Rattle.mapfile_entries.specs.RosterCheck.{rosterCheck}
 use Rattle.mapfile_entries.proofs.EntriesInTurn.{rise-room}
+use Rattle.mapfile_entries.proofs.SectionLaws.{compared}
 use Rattle.mapfile_entries.proofs.check.Statement.{statement}
 use Rattle.mapfile_entries.proofs.check.Tie as tie
 
@@ -38,36 +39,20 @@ returns-3 c =
     )
 
 returns-4 : tie.Need-returns-4
-unfolding rosterCheck must orElse
+unfolding must
 returns-4 c =
-    let a = c .before .before .before .before .before .before .before .before .before .before .before .args in
-    let long = c .before .before .before .before .before .long in
-    let if1 = c .before .before .before .before .before .before .before .before .if1 in
-    simp (
-      sym (long .ensures ∙ c .before .before .before .before .before .before .wide .ensures),
-      le-leb _ _ (if1 .left),
-      sym (c .before .before .before .before .entries-rise .ensures),
-      c .before .before .before .if2 .left,
-      le-leb (length (a .section .now)) (1 + 5 * long .result) (omega arith),
-      sym (c .before .roster-good .ensures),
-      not-true (c .before .roster-good .result) (c .if4 .taken),
-    )
+    let count = c .before .before .before .before .before .long .ensures ∙ c .before .before .before .before .before .before .wide .ensures in
+    let e = sym (c .before .before .before .before .entries-rise .ensures) ∙ c .before .before .before .if2 .left in
+    let good = c .before .roster-good in
+    sym (compared _ _ _ count (omega arith) e (omega arith) (good .ensures) ∙ rw (not-true (good .result) (c .if4 .taken)))
 
 returns-5 : tie.Need-returns-5
-unfolding rosterCheck must orElse
+unfolding must
 returns-5 c =
-    let a = c .before .before .before .before .before .before .before .before .before .before .before .args in
-    let long = c .before .before .before .before .before .long in
-    let if1 = c .before .before .before .before .before .before .before .before .if1 in
-    simp (
-      sym (long .ensures ∙ c .before .before .before .before .before .before .wide .ensures),
-      le-leb _ _ (if1 .left),
-      sym (c .before .before .before .before .entries-rise .ensures),
-      c .before .before .before .if2 .left,
-      le-leb (length (a .section .now)) (1 + 5 * long .result) (omega arith),
-      sym (c .before .roster-good .ensures),
-      not-false (c .before .roster-good .result) (c .if4 .left),
-    )
+    let count = c .before .before .before .before .before .long .ensures ∙ c .before .before .before .before .before .before .wide .ensures in
+    let e = sym (c .before .before .before .before .entries-rise .ensures) ∙ c .before .before .before .if2 .left in
+    let good = c .before .roster-good in
+    sym (compared _ _ _ count (omega arith) e (omega arith) (good .ensures) ∙ rw (not-false (good .result) (c .if4 .left)))
 
 roster-good-requires : tie.Need-roster-good-requires
 roster-good-requires c κs =

@@ -1,8 +1,9 @@
 -- The tests of an entry, in the definition's order.
-use mathlib.Core.Path.{sym}
+use mathlib.Core.Path.{sym, _∙_}
 use native.Mathlib.Omega.{arith}
-use borrow.Author.Tests.{lt-leb, lt-ltb, eq-eqb, ne-eqb}
+use borrow.Author.Tests.{lt-leb, eq-eqb, ne-eqb}
 use Rattle.mapfile_entries.specs.Pixels.{entryRight}
+use Rattle.mapfile_entries.proofs.EntriesInTurn.{right-some}
 use borrow.Author.Needs.{needs}
 use Rattle.mapfile_entries.proofs.entry_right.Statement.{statement}
 use Rattle.mapfile_entries.proofs.entry_right.Tie as tie
@@ -14,28 +15,16 @@ returns c =
     simp (sym (total .ensures), lt-leb 1 (total .result) (omega arith))
 
 returns-2 : tie.Need-returns-2
-unfolding entryRight
 returns-2 c =
     let total = c .before .before .before .total in
     let word-at = c .before .word-at in
-    simp (
-      sym (total .ensures),
-      sym (word-at .ensures),
-      lt-ltb 0 (total .result) (omega arith),
-      ne-eqb (word-at .result) (total .result) (λ e. omega arith),
-    )
+    sym (ne-eqb (word-at .result) (total .result) (λ e. omega arith)) ∙ right-some _ _ _ _ (total .ensures) (word-at .ensures) (omega arith)
 
 returns-3 : tie.Need-returns-3
-unfolding entryRight
 returns-3 c =
     let total = c .before .before .before .total in
     let word-at = c .before .word-at in
-    simp (
-      sym (total .ensures),
-      sym (word-at .ensures),
-      lt-ltb 0 (total .result) (omega arith),
-      eq-eqb (word-at .result) (total .result) (omega arith),
-    )
+    sym (eq-eqb (word-at .result) (total .result) (omega arith)) ∙ right-some _ _ _ _ (total .ensures) (word-at .ensures) (omega arith)
 
 pub entry-right-spec : {M : Type 1} → statement M
 entry-right-spec =
