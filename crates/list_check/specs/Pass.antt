@@ -1,4 +1,6 @@
--- Inner: what one pass over a list keeps of the tiles that it has seen. Definitions only.
+-- Inner: the checks ahead of the words, and what one pass over them keeps of the tiles that it has seen. Definitions
+-- only.
+--     countCheck n t m     1, and 2 of t tiles in m slots
 --     joins a t            t is the next of the siblings that `a` counts
 --     siblingsWith a t     how many siblings, one behind the other from the first of the four on, end with t; 0 where
 --                          the first is missing
@@ -11,14 +13,18 @@ use mathlib.Core.Path.{_≡_}
 use mathlib.Core.Bool.{Bool, _&&_}
 use mathlib.Core.List.{List, [], _∷_}
 use Prim.Native.Nat.{ℕ, _+_, _≤_}
-use lib.Dec.{ltb, eqb}
+use lib.Dec.{leb, ltb, eqb}
 use Rattle.basics.specs.Choice.{if}
-use Rattle.refusal.specs.Refusal.{accepted}
-use Rattle.tile.specs.Tile.{Tile, stop, tileOf}
+use Rattle.refusal.specs.Refusal.{accepted, orderTooLarge, countAboveSlots}
+use Rattle.refusal.specs.Checks.{must}
+use Rattle.tile.specs.Tile.{Tile, stop, tileOf, highestOrder}
 use Rattle.quadtree.specs.Raster.{aligned}
 use Rattle.list_check.specs.declared.Ahead.{Ahead}
 use Rattle.list_check.specs.declared.Judged.{Judged}
 use Rattle.list_check.specs.ListCheck.{wordCheck}
+
+unfoldable pub countCheck : ℕ → ℕ → ℕ → ℕ
+countCheck n t m = must (leb n highestOrder) orderTooLarge (must (leb t m) countAboveSlots accepted)
 
 unfoldable pub joins : Ahead → Tile → Bool
 joins a t = ltb 0 (a .siblings) && (eqb (t .corner) (a .stop) &&

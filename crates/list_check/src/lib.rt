@@ -1,11 +1,16 @@
-// List checking in one pass, which keeps four numbers of the tiles that it has seen.
+// List checking in one pass, which keeps four numbers of the tiles that it has seen. Most valid lists are spared it by
+// list_flat, which is faster and does not know why it refuses.
 ghost use mathlib.Core.Path.{_≡_};
 ghost use mathlib.Core.List.{List, []};
 ghost use Prim.Native.Nat.{_≤_};
 ghost use lib.ListN.{length, take};
 ghost use Rattle.tile.specs.Tile.{Tile, tile, highestOrder};
 ghost use Rattle.list_check.specs.ListCheck.{soundCheck, wordsCheck, listCheck};
-ghost use Rattle.list_check.specs.Pass.{siblingsWith, Knows, Judges};
+ghost use Rattle.list_check.specs.Pass.{siblingsWith, countCheck, Knows, Judges};
+
+// A list of fewer tiles is short: it gains nothing by the flat pass. For so few the compiler unrolls the loop of
+// `exact`, which it does not for more than eight.
+pub const SHORT: usize = 9;
 
 // What the pass keeps of the tiles ahead: where the last one stops, its size and account, and how many siblings in a
 // row, from the first of the four on, end with it.
@@ -117,7 +122,7 @@ pub fn step(order: u32, ahead: Ahead, word: u32) -> Judged
 }
 
 // The words of a list in turn.
-fn words(order: u32, tiles: usize, slots: &[u32]) -> u32
+fn exact(order: u32, tiles: usize, slots: &[u32]) -> u32
     requires { ⌜ (order ≤ highestOrder) × (tiles ≤ length (now slots)) ⌝ }
     ensures { λ r. ⌜ r ≡ wordsCheck order [] (take tiles (now (slots .entry))) ⌝ }
 {
@@ -135,16 +140,65 @@ fn words(order: u32, tiles: usize, slots: &[u32]) -> u32
     refusal::ACCEPTED
 }
 
+// The words of a list that is not short: once the first word is sound, the flat pass may take all words at once; where
+// it does not, they go in turn, so that the first bad one is found.
+fn words(order: u32, tiles: usize, slots: &[u32]) -> u32
+    requires { ⌜ (order ≤ highestOrder) × (3 ≤ tiles) × (tiles ≤ length (now slots)) ⌝ }
+    ensures { λ r. ⌜ r ≡ wordsCheck order [] (take tiles (now (slots .entry))) ⌝ }
+{
+    let refusal = sound(order, 0, slots[0]);
+    if refusal != refusal::ACCEPTED {
+        return refusal;
+    }
+    if list_flat::flat(order, tiles, slots) {
+        return refusal::ACCEPTED;
+    }
+    exact(order, tiles, slots)
+}
+
+// Checks 1 and 2.
+fn counted(order: u32, tiles: usize, lent: usize) -> u32
+    ensures { λ r. ⌜ r ≡ countCheck order tiles lent ⌝ }
+{
+    if tile::HIGHEST_ORDER < order {
+        return refusal::ORDER_TOO_LARGE;
+    }
+    if lent < tiles {
+        return refusal::COUNT_ABOVE_SLOTS;
+    }
+    refusal::ACCEPTED
+}
+
+// The check of a list word by word, as it suits short ones: small enough to become part of its callers.
+pub fn check_short(order: u32, tiles: usize, slots: &[u32]) -> u32
+    ensures { λ r. ⌜ r ≡ listCheck order tiles (now (slots .entry)) ⌝ }
+{
+    let number = counted(order, tiles, slots.len());
+    if number != refusal::ACCEPTED {
+        return number;
+    }
+    exact(order, tiles, slots)
+}
+
+// The check of any other list.
+fn check_long(order: u32, tiles: usize, slots: &[u32]) -> u32
+    requires { ⌜ 3 ≤ tiles ⌝ }
+    ensures { λ r. ⌜ r ≡ listCheck order tiles (now (slots .entry)) ⌝ }
+{
+    let number = counted(order, tiles, slots.len());
+    if number != refusal::ACCEPTED {
+        return number;
+    }
+    words(order, tiles, slots)
+}
+
 // The offered call: checks a list of an order, its tile count and its slots, and answers the first refusal, or that it
 // is accepted.
 pub fn check(order: u32, tiles: usize, slots: &[u32]) -> u32
     ensures { λ r. ⌜ r ≡ listCheck order tiles (now (slots .entry)) ⌝ }
 {
-    if tile::HIGHEST_ORDER < order {
-        return refusal::ORDER_TOO_LARGE;
+    if tiles < SHORT {
+        return check_short(order, tiles, slots);
     }
-    if slots.len() < tiles {
-        return refusal::COUNT_ABOVE_SLOTS;
-    }
-    words(order, tiles, slots)
+    check_long(order, tiles, slots)
 }

@@ -37,7 +37,7 @@ fn put_file(order: u32, tiles: usize, slots: &[u32], accounts: usize, file: &mut
 fn ready(scan: bed::Scan, slots: &[u32]) -> u32
     ensures { λ r. ⌜ r ≡ readyCheck scan (now (slots .entry)) ⌝ }
 {
-    let opened = scan_check::open_check(scan, slots);
+    let opened = scan_check::open_finished(scan, slots);
     if opened != refusal::ACCEPTED {
         return opened;
     }

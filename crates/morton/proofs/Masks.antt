@@ -2,6 +2,7 @@
 --     spreads x        the four steps of `spread`, after its first mask
 --     gathers x        the four steps of `column_of`, after its first mask
 --     spreads-morton   `spread` gives the Morton number of column x in row 0
+--     evens-column     the mask of the even places keeps the column
 --     gathers-column   `column_of` gives the column
 --     join-morton      `number` gives the Morton number
 use mathlib.Core.Path.{_≡_, refl, _∙_}
@@ -49,11 +50,11 @@ pub spreads-morton : (x : ℕ) → spreads (bitAnd x 0x3ff) ≡ morton sideBits 
 spreads-morton x = rw (and-mask x sideBits) (spreads-small (x % 2 ^ sideBits) (mod-lt x (omega arith)) ∙ morton-low sideBits x 0)
 
 -- the mask of the k lowest even places
-abbrev evens : ℕ → ℕ
+abbrev pub evens : ℕ → ℕ
 evens zero = 0
 evens (suc k) = evens k * 4 + 1
 
-evens-column : (k z : ℕ) → bitAnd z (evens k) ≡ morton k (column k z) 0
+pub evens-column : (k z : ℕ) → bitAnd z (evens k) ≡ morton k (column k z) 0
 unfolding morton column
 evens-column zero z = and-zero-r z
 evens-column (suc k) z =

@@ -1,6 +1,7 @@
 // Morton numbers by interleaving bits, for columns and rows of ten bits. Higher bits are dropped, so that each function
 // takes every u32.
 ghost use mathlib.Core.Path.{_≡_};
+ghost use Prim.Native.Nat.{_*_};
 ghost use Rattle.morton.specs.Morton.{morton, column, row, sideBits};
 
 // What each mask keeps of ten bits on their way between the places 0 to 9 and the even places.
@@ -14,8 +15,10 @@ const PAIRS: u32 = 0x33333; // two bits of each four
 
 const SPACED: u32 = 0x55555; // the even places 18 to 0
 
+const BESIDE: u32 = SPACED << 1; // the odd places 19 to 1
+
 // The low ten bits of x, moved to the even places.
-fn spread(x: u32) -> u32
+pub fn spread(x: u32) -> u32
     ensures { λ r. ⌜ r ≡ morton sideBits x 0 ⌝ }
 {
     let low = x & TOGETHER;
@@ -48,4 +51,18 @@ pub fn row_of(z: u32) -> u32
     ensures { λ r. ⌜ r ≡ row sideBits z ⌝ }
 {
     column_of(z >> 1)
+}
+
+// The column of a Morton number, spread as it is there: to compare columns, it need not be moved together.
+pub fn column_bits(z: u32) -> u32
+    ensures { λ r. ⌜ r ≡ morton sideBits (column sideBits z) 0 ⌝ }
+{
+    z & SPACED
+}
+
+// The row of a Morton number, spread as it is there, one place higher than a column.
+pub fn row_bits(z: u32) -> u32
+    ensures { λ r. ⌜ r ≡ 2 * morton sideBits (row sideBits z) 0 ⌝ }
+{
+    z & BESIDE
 }

@@ -5,11 +5,12 @@
 --     chain-from                where the tiles of a chain start
 --     chain-rising              their corners rise
 --     chain-apart               a tile that starts behind another starts where that one stops, or further on
+--     chain-last                no tile of a chain stops past its last one
 --     chain-quadrant            each tile of a chain is a quadrant tile
 --     chain-before              a chain shows nothing ahead of its start
 use mathlib.Core.Path.{_≡_, refl, ap, sym, _∙_}
-use mathlib.Core.List.{List, List·Memᴰ·head, List·Memᴰ·tail}
-use Prim.Native.Nat.{ℕ, zero, suc, _^_, _≤_, _<_}
+use mathlib.Core.List.{List, List·Memᴰ·head, List·Memᴰ·tail, List·Memᴰ·not-nil}
+use Prim.Native.Nat.{ℕ, zero, suc, _+_, _^_, _≤_, _<_}
 use native.Mathlib.Omega.{arith}
 use lib.ListN.{length, getD}
 use Rattle.tile.specs.Tile.{Tile, stop}
@@ -49,6 +50,15 @@ chain-apart (link p r) (List·Memᴰ·head e) (List·Memᴰ·head g) h = absurd 
 chain-apart (link p r) (List·Memᴰ·head e) (List·Memᴰ·tail j) h = omega (arith, ap stop e, chain-from r j)
 chain-apart (link {t = t} p r) (List·Memᴰ·tail i) (List·Memᴰ·head g) h = absurd (omega (arith, ap (λ (x : Tile). x .corner) g, chain-from r i, area-pos (t .size)))
 chain-apart (link p r) (List·Memᴰ·tail i) (List·Memᴰ·tail j) h = chain-apart r i j h
+
+pub chain-last : {n lo : ℕ} {t : Tile} {ts : List Tile} (d : Tile) (i : ℕ) → Chain n lo ts → i + 1 ≡ length ts → t ∈ ts → stop t ≤ stop (getD ts i d)
+chain-last d zero (link s end) e (List·Memᴰ·head g) = omega (arith, ap stop g)
+chain-last d zero (link s end) e (List·Memᴰ·tail m) = absurd (List·Memᴰ·not-nil m)
+chain-last d zero (link s (link q r)) e m = absurd (omega arith)
+chain-last d (suc i) (link s end) e m = absurd (omega arith)
+chain-last d (suc i) (link {t = u} s (link {t = v} q r)) e (List·Memᴰ·head g) =
+    omega (arith, ap stop g, q .after, area-pos (v .size), chain-last {t = v} d i (link {t = v} q r) (omega arith) (List·Memᴰ·head refl))
+chain-last d (suc i) (link s (link q r)) e (List·Memᴰ·tail m) = chain-last d i (link q r) (omega arith) m
 
 pub chain-quadrant : {n lo : ℕ} {t : Tile} {ts : List Tile} → Chain n lo ts → t ∈ ts → Quadrant n t
 chain-quadrant (link s r) (List·Memᴰ·head e) = rw e (s .quadrant)

@@ -58,7 +58,7 @@ module _ (c : Scan) (slots : List ℕ) where
     pub open-whole : 4 ^ c .order ≡ c .pixels → accepted ≡ opening c slots
     open-whole e =
         let v = listCheck-valid (c .order) (c .tiles) slots .0 passed in
-        open-passed (omega arith) (sym (whole-clear c (tilesIn (c .tiles) slots) (v .2) (sym e)))
+        open-passed (omega arith) (sym (whole-clear c (tilesIn (c .tiles) slots) (v .2) (omega arith)))
 
   pub opening-opened : opening c slots ≡ accepted → Opened c slots
   unfolding opening

@@ -3,6 +3,7 @@
 --     block-unscanned, -scanned     52 of a block by the test; block-passed, what passes, and block-all, that it does
 --     finished-short, -whole        52 of a scan to be written; finished-passed, what passes; finished-all, that each pixel is scanned
 --     whole-pixel, whole-block      52 is met of none of them once all pixels are scanned
+--     tiles-clear                   no tile covers an unscanned pixel, where each is wholly scanned
 --     whole-clear, blank-clear      no tile of a valid list covers an unscanned pixel, once all are scanned, or where the unscanned ones are nobody's
 use mathlib.Core.Path.{_≡_, refl, sym}
 use mathlib.Core.Bool.{Bool, true, false}
@@ -109,7 +110,7 @@ module _ (c : Scan) where
   )
 
   -- no tile covers an unscanned pixel, where each is wholly scanned
-  tiles-clear : (ts : List Tile) → ((t : Tile) → t ∈ ts → AllScanned (c .kind) (c .order) (c .pixels) (t .corner) (t .size)) → coversUnscanned c ts ≡ false
+  pub tiles-clear : (ts : List Tile) → ((t : Tile) → t ∈ ts → AllScanned (c .kind) (c .order) (c .pixels) (t .corner) (t .size)) → coversUnscanned c ts ≡ false
   unfolding coversUnscanned
   tiles-clear [] q = refl
   tiles-clear (t ∷ ts) q = rw (passed (test-unscanned (c .kind) (c .order) (c .pixels) (t .corner) (t .size)) (λ w. w .3 (q t (List·Memᴰ·head refl) (w .0) (w .1) (w .2)))) (tiles-clear ts (λ u i. q u (List·Memᴰ·tail i)))
@@ -119,7 +120,7 @@ module _ (c : Scan) where
       passed (fails p) h = refl
 
   module _ (ts : List Tile) (v : Valid (c .order) ts) where
-    pub whole-clear : c .pixels ≡ 4 ^ c .order → coversUnscanned c ts ≡ false
+    pub whole-clear : 4 ^ c .order ≤ c .pixels → coversUnscanned c ts ≡ false
     whole-clear e = tiles-clear ts (λ t i z l h. omega (arith, placeOf-lt (c .kind) (c .order) z (omega (arith, quadrant-stop (valid-quadrant v i)))))
 
     pub blank-clear : ((z : ℕ) → z < 4 ^ c .order → c .pixels ≤ placeOf (c .kind) (c .order) z → accountAt ts z ≡ 0) → coversUnscanned c ts ≡ false

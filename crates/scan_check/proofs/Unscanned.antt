@@ -2,18 +2,18 @@
 --     place-rows, place-morton   the place of a pixel as the code computes it, by kind
 --     place-fits                 it fits a word
 --     word-quadrant              the words of a valid list are quadrant tiles
---     covers-found, covers-on    one word of the list decides, or the words behind it do
+--     opened                     one word of the list, or the words behind it, decide
 --     covers-none                no word is left
 --     covers-blank               where no tile covers a pixel that is not scanned, these are nobody's
 use mathlib.Core.Path.{_≡_, _∙_, refl, ap}
-use mathlib.Core.Bool.{Bool, true, false, _||_}
+use mathlib.Core.Bool.{Bool, false, _||_}
 use mathlib.Core.List.{List, [], _∷_}
 use Prim.Native.Nat.{ℕ, _+_, _*_, _%_, _^_, _≤_, _<_}
 use native.Mathlib.Numerals.{add-one}
 use native.Mathlib.Omega.{arith}
 use lib.ListN.{length, take, drop, getD, drop-of-length-le}
 use lib.Seq.{drop-cons, getD-take, length-take-le}
-use Rattle.basics.proofs.Tests.{told-false}
+use Rattle.basics.proofs.Tests.{told-false, neither}
 use Rattle.morton.specs.Morton.{column, row, sideBits}
 use Rattle.morton.proofs.MortonLaws.{column-wide, row-wide}
 use Rattle.tile.specs.Tile.{Tile, tileOf, highestOrder}
@@ -69,28 +69,18 @@ module _ (slots : List ℕ) (t i : ℕ) (h : i < t) (l : t ≤ length slots) whe
   split = rw (add-one i) (drop-cons (take t slots) i 0 (rw (length-take-le t slots l) h) ∙ rw (getD-take t slots i 0 h))
 
   module _ (c : Scan) where
-    abbrev one : Bool
+    abbrev pub one : Bool
     one = unscannedIn (c .kind) (c .order) (c .pixels) (tileOf (getD slots i 0) .corner) (tileOf (getD slots i 0) .size)
 
-    opened : coversUnscanned c (tiles (drop i (take t slots))) ≡ (one || coversUnscanned c (tiles (drop (i + 1) (take t slots))))
+    pub opened : coversUnscanned c (tiles (drop i (take t slots))) ≡ (one || coversUnscanned c (tiles (drop (i + 1) (take t slots))))
     unfolding coversUnscanned
     opened = rw split
-
-    pub covers-found : one ≡ true → coversUnscanned c (tiles (drop i (take t slots))) ≡ true
-    covers-found e = opened ∙ rw e
-
-    pub covers-on : one ≡ false → coversUnscanned c (tiles (drop i (take t slots))) ≡ coversUnscanned c (tiles (drop (i + 1) (take t slots)))
-    covers-on e = opened ∙ rw e
 
 pub covers-none : (c : Scan) (slots : List ℕ) (t i : ℕ) → i ≡ t → t ≤ length slots → coversUnscanned c (tiles (drop i (take t slots))) ≡ false
 unfolding coversUnscanned
 covers-none c slots t i e l =
     let d : drop i (take t slots) ≡ [] = drop-of-length-le (take t slots) {i = i} (rw (length-take-le t slots l) (omega arith)) in
     rw d
-
-neither : (a b : Bool) → (a || b) ≡ false → (a ≡ false) × (b ≡ false)
-neither true b e = absurd (let z : _≡_ {A = ℕ} 0 1 = cc in omega arith)
-neither false b e = (refl, e)
 
 pub covers-blank : (c : Scan) (ts : List Tile) → coversUnscanned c ts ≡ false → (z : ℕ) → c .pixels ≤ placeOf (c .kind) (c .order) z → accountAt ts z ≡ 0
 unfolding coversUnscanned accountAt

@@ -2,3 +2,4 @@
 pub mod Opening
 pub mod Scanned
 pub mod Opened
+pub mod Standing

@@ -1,15 +1,18 @@
 // The checks of a scan: the opening checks, those of its list and then 21 and 22 of its record; and 52, that what a
 // call asks for is scanned, a function for each thing asked.
 ghost use mathlib.Core.Path.{_≡_};
-ghost use Prim.Native.Nat.{_^_, _<_, _≤_};
-ghost use lib.Dec.{eqb};
+ghost use Prim.Native.Nat.{ℕ, _^_, _<_, _≤_};
+ghost use lib.Dec.{eqb, leb};
 ghost use lib.ListN.{length};
-ghost use Rattle.tile.specs.Tile.{tileOf, highestOrder};
+ghost use Rattle.tile.specs.Tile.{highestOrder};
 ghost use Rattle.tile.specs.Slots.{tilesIn};
-ghost use Rattle.quadtree.specs.Raster.{Aligned, Quadrant};
+ghost use Rattle.quadtree.specs.Raster.{Aligned};
 ghost use Rattle.quadtree.specs.Valid.{Valid};
-ghost use Rattle.bed.specs.Places.{placeOf, unscannedIn};
+ghost use Rattle.bed.specs.declared.Kind.the-variants.{Rows};
+ghost use Rattle.bed.specs.Places.{scanOf, placeOf, unscannedIn};
+ghost use Rattle.list_check.specs.ListCheck.{listCheck};
 ghost use Rattle.scan_check.specs.Opening.{coversUnscanned, opening};
+ghost use Rattle.scan_check.specs.Standing.{Stands};
 ghost use Rattle.scan_check.specs.Scanned.{scannedCheck, blockScannedCheck, finishedCheck};
 
 // How many places come before that of the pixel z.
@@ -31,15 +34,35 @@ fn unscanned_in(kind: bed::Kind, order: u32, pixels: u32, corner: u32, size: u32
     pixels <= place(kind, order, corner + tile::area(size) - 1)
 }
 
-// Whether the tile of a word covers a pixel that is not scanned.
-fn covers(kind: bed::Kind, order: u32, pixels: u32, word: u32) -> bool
-    requires { ⌜ (order ≤ highestOrder) × Quadrant order (tileOf word) ⌝ }
-    ensures { λ r. ⌜ r ≡ unscannedIn kind order pixels (tileOf word .corner) (tileOf word .size) ⌝ }
+// Whether the pixel z comes where the scan by rows stands, or behind it. The row and the column of that place are
+// spread as they are in z, so that nothing in z need be moved.
+fn behind(row: u32, column: u32, z: u32) -> bool
+    ensures { λ r. ⌜ ((n s : ℕ) → Stands n s row column → z < 4 ^ n → r ≡ leb s (placeOf Rows n z)) ⌝ }
 {
-    unscanned_in(kind, order, pixels, tile::corner(word), tile::size(word))
+    let down = morton::row_bits(z);
+    (row < down) | ((row == down) & (column <= morton::column_bits(z)))
 }
 
-// Whether a tile of the list covers a pixel that is not scanned.
+// Whether a tile of the list covers a pixel that is not scanned by rows: its last pixel comes last in the scan. No
+// branch inside, so that the loop is vectorized.
+fn rows_unscanned(order: u32, pixels: u32, tiles: usize, slots: &[u32]) -> bool
+    requires { ⌜ (order ≤ highestOrder) × (pixels < 4 ^ order) × (tiles ≤ length (now slots)) ⌝ }
+    requires { ⌜ Valid order (tilesIn tiles (now slots)) ⌝ }
+    ensures { λ r. ⌜ r ≡ coversUnscanned (scanOf Rows order pixels tiles) (tilesIn tiles (now (slots .entry))) ⌝ }
+{
+    let row = morton::spread(pixels >> order) << 1;
+    let column = morton::spread(pixels % (1u32 << order));
+    let mut bad = false;
+    let mut i = 0;
+    while i < tiles {
+        bad = bad | behind(row, column, tile::stop(slots[i]) - 1);
+        i += 1;
+    }
+    bad
+}
+
+// Whether a tile of the list covers a pixel that is not scanned. In Morton order the last tile decides, since the tiles
+// of a valid list rise.
 fn covers_unscanned(scan: bed::Scan, slots: &[u32]) -> bool
     requires { ⌜ (scan .order ≤ highestOrder) × (scan .tiles ≤ length (now slots)) ⌝ }
     requires { ⌜ Valid (scan .order) (tilesIn (scan .tiles) (now slots)) ⌝ }
@@ -49,14 +72,26 @@ fn covers_unscanned(scan: bed::Scan, slots: &[u32]) -> bool
     let order = scan.order;
     let pixels = scan.pixels;
     let tiles = scan.tiles;
-    let mut i = 0;
-    while i < tiles {
-        if covers(kind, order, pixels, slots[i]) {
-            return true;
-        }
-        i += 1;
+    if tile::area(order) <= pixels {
+        return false;
     }
-    false
+    if tiles == 0 {
+        return false;
+    }
+    match kind {
+        bed::Kind::Rows => rows_unscanned(order, pixels, tiles, slots),
+        bed::Kind::Morton => pixels < tile::stop(slots[tiles - 1]),
+    }
+}
+
+// The list's checks: a short list is checked in place, since a call would cost more.
+fn list_number(order: u32, tiles: usize, slots: &[u32]) -> u32
+    ensures { λ r. ⌜ r ≡ listCheck order tiles (now (slots .entry)) ⌝ }
+{
+    if tiles < list_check::SHORT {
+        return list_check::check_short(order, tiles, slots);
+    }
+    list_check::check(order, tiles, slots)
 }
 
 // The opening checks: 1, 2 and 11 to 16 of the list, then 21 and 22 of the record. Once all pixels are scanned, no list
@@ -65,7 +100,7 @@ pub fn open_check(scan: bed::Scan, slots: &[u32]) -> u32
     ensures { λ r. ⌜ r ≡ opening scan (now (slots .entry)) ⌝ }
 {
     let order = scan.order;
-    let number = list_check::check(order, scan.tiles, slots);
+    let number = list_number(order, scan.tiles, slots);
     if number != refusal::ACCEPTED {
         return number;
     }
@@ -80,6 +115,22 @@ pub fn open_check(scan: bed::Scan, slots: &[u32]) -> u32
         return refusal::TILE_UNSCANNED;
     }
     refusal::ACCEPTED
+}
+
+// The same for a call on finished scans that takes little stack: a finished scan has its list checked and nothing else,
+// with one call in between. Any other goes through all checks.
+pub fn open_finished(scan: bed::Scan, slots: &[u32]) -> u32
+    ensures { λ r. ⌜ r ≡ opening scan (now (slots .entry)) ⌝ }
+{
+    let order = scan.order;
+    let number = list_check::check(order, scan.tiles, slots);
+    if number != refusal::ACCEPTED {
+        return number;
+    }
+    if tile::area(order) == scan.pixels {
+        return refusal::ACCEPTED;
+    }
+    open_check(scan, slots)
 }
 
 // Whether every pixel is scanned: then what is asked need not be looked at.

@@ -70,9 +70,9 @@ unfolding if
 over-yes true h = refl
 over-yes false h = absurd (h refl)
 
-module _ (k : Kind) (n p a : ℕ) (s : List ℕ) (i b : ℕ) (fits : Fits s i b) (trails : Trails k s i b p) where
+module _ (k : Kind) (n p a : ℕ) (s : List ℕ) (i b : ℕ) (fits : Fits s i b) (trails : Trails k s i b p) (within : p ≤ 4 ^ n) where
   stepped-refused : (r : ℕ) → (r ≡ accepted → ⊥) → ((f : ℕ → ℕ) → bed.pixelCheck (length s) (bed.bedOf k n p f) a ≡ r) → Stepped k n p a s s i b (record { number = r; front = i; back = b })
-  stepped-refused r h e = record { fits = fits; trails = trails-next k s i b p trails; on = λ f w. record { number = sym (e f); done = λ q. absurd (h q); kept = λ q. refl } }
+  stepped-refused r h e = record { fits = fits; trails = trails-next k s i b p trails; going = λ q. absurd (h q); on = λ f w. record { number = sym (e f); done = λ q. absurd (h q); kept = λ q. refl } }
 
   pub stepped-full : p ≡ 4 ^ n → Stepped k n p a s s i b (record { number = scanFull; front = i; back = b })
   stepped-full e = stepped-refused scanFull (λ q. omega arith) (λ f. check-full (length s) (bed.bedOf k n p f) a e)
@@ -87,6 +87,7 @@ module _ (k : Kind) (n p a : ℕ) (s : List ℕ) (i b : ℕ) (fits : Fits s i b)
       stepped-put x e = record {
         fits = placed .fits;
         trails = on;
+        going = λ c. elim (decLe (4 ^ n) p) [ yes h ↦ absurd (going (omega arith)) | no h ↦ omega arith ];
         on = λ f w.
             let o = placed .on n f (holds-awaits w (omega (arith, w .within))) in
             record {

@@ -7,19 +7,21 @@
 --     SteppedOn m b a r ts us     r is what the checks say of a on the bed b; if they accept it, us is the list of the
 --                                 bed with it, else ts again
 --     Stepped k n p a s t i b r   from the slots s to t the account a went to the place with p before it, or was
---                                 refused; the gap trails on
+--                                 refused; the gap trails on, and an account that is accepted had a place
+--     OnWay m k n bytes j p f t r   r is how far the plain bed's feed has come from the raster f, with p pixels scanned
+--                                 and j bytes taken: the list in t is that of its bed, and the feed goes on from there,
+--                                 or stops there
+--     FedOn k n bytes j p s t i b r   so it is from the slots s to t, of each raster whose list is in s
 --     FedTo c e t r               the answer r and the list with a gap in the slots t are what the plain bed's feed e
 --                                 gives
 use mathlib.Core.Path.{_≡_}
 use mathlib.Core.List.{List}
 use Prim.Native.Nat.{ℕ, _+_, _^_, _≤_, _<_}
-use lib.ListN.{length}
+use lib.ListN.{length, drop}
 use Rattle.refusal.specs.Refusal.{accepted}
-use Rattle.tile.specs.Tile.{Tile, highestOrder}
-use Rattle.tile.specs.Slots.{tiles, tilesIn}
-use Rattle.quadtree.specs.Raster.{accountAt}
+use Rattle.tile.specs.Tile.{Tile}
+use Rattle.tile.specs.Slots.{tiles}
 use Rattle.quadtree.specs.Quadtree.{quadtree}
-use Rattle.quadtree.specs.Valid.{Valid}
 use Rattle.bed.specs.declared.Kind.{Kind}
 use Rattle.bed.specs.declared.Kind.the-variants.{Morton}
 use Rattle.bed.specs.declared.Scan.{Scan}
@@ -52,8 +54,26 @@ pub record SteppedOn (m : ℕ) (b : bed.Bed) (a r : ℕ) (ts us : List Tile) : T
 pub record Stepped (k : Kind) (n p a : ℕ) (s t : List ℕ) (i b : ℕ) (r : AfterPixel) : Type 0 where
   pub fits : Fits t (r .front) (r .back)
   pub trails : Trails k t (r .front) (r .back) (p + 1)
+  pub going : r .number ≡ accepted → p < 4 ^ n
   pub on : (f : ℕ → ℕ) → Holds k n p f (tiles (held s i b)) →
       SteppedOn (length s) (bed.bedOf k n p f) a (r .number) (tiles (held s i b)) (tiles (held t (r .front) (r .back)))
+
+pub record OnWay (m : ℕ) (k : Kind) (n : ℕ) (bytes : List ℕ) (j p : ℕ) (f : ℕ → ℕ) (t : List ℕ)
+    (r : AfterPixels) : Type 0 where
+  pub raster : ℕ → ℕ
+  pub holds : Holds k n (r .pixels) raster (tiles (held t (r .front) (r .back)))
+  pub trails : r .number ≡ accepted → Trails k t (r .front) (r .back) (r .pixels)
+  pub goes : r .number ≡ accepted → bed.feedPixels m j (bed.bedOf k n p f) (drop j bytes) ≡
+      bed.feedPixels m (r .taken) (bed.bedOf k n (r .pixels) raster) (drop (r .taken) bytes)
+  pub stops : (r .number ≡ accepted → ⊥) → bed.feedPixels m j (bed.bedOf k n p f) (drop j bytes) ≡
+      bed.stopped (r .number) (r .taken) (bed.bedOf k n (r .pixels) raster)
+
+pub record FedOn (k : Kind) (n : ℕ) (bytes : List ℕ) (j p : ℕ) (s t : List ℕ) (i b : ℕ) (r : AfterPixels) : Type 0 where
+  pub fits : Fits t (r .front) (r .back)
+  pub along : r .pixels + j ≡ p + r .taken
+  pub within : r .pixels ≤ 4 ^ n
+  pub given : r .taken ≤ length bytes
+  pub on : (f : ℕ → ℕ) → Holds k n p f (tiles (held s i b)) → OnWay (length s) k n bytes j p f t r
 
 pub record FedTo (c : Scan) (e : bed.BedFed) (t : List ℕ) (r : AfterPixels) : Type 0 where
   pub number : r .number ≡ e .number

@@ -4,6 +4,8 @@
 --     Awaits n f z ts        ts is the linear quadtree of the raster f of order n, and the pixel z can be put into it:
 --                            of each block that has z,
 --                            the last pixel is nobody's
+--     Receives n f c k ts    the same of the block of size k at the corner c, which is nobody's: of each block that has
+--                            its last pixel, the last pixel is nobody's
 --     dotted f z a           the raster f with the account a on the pixel z
 --     PlacedOn n m g ts us r r says whether m slots are too few for the linear quadtree of g; if they are not, us is
 -- this list, else ts again
@@ -21,7 +23,7 @@ use lib.Dec.{ltb}
 use lib.ListN.{length, take, drop, getD}
 use Rattle.tile.specs.Tile.{Tile, stop, tileOf}
 use Rattle.tile.specs.Slots.{tiles}
-use Rattle.quadtree.specs.Raster.{Aligned, paint}
+use Rattle.quadtree.specs.Raster.{Aligned, Uniform, paint}
 use Rattle.quadtree.specs.Quadtree.{quadtree}
 use Rattle.list_push.specs.Merging.{upTo, MergedInto}
 use Rattle.list_push.specs.declared.Top.{Top}
@@ -38,6 +40,14 @@ pub record Awaits (n : ℕ) (f : ℕ → ℕ) (z : ℕ) (ts : List Tile) : Type 
   pub is : ts ≡ quadtree n f
   pub inside : z < 4 ^ n
   pub last : (k c : ℕ) → Aligned k c → c ≤ z → z < c + 4 ^ k → c + 4 ^ k ≤ 4 ^ n → f (c + 4 ^ k - 1) ≡ 0
+
+pub record Receives (n : ℕ) (f : ℕ → ℕ) (c k : ℕ) (ts : List Tile) : Type 0 where
+  pub is : ts ≡ quadtree n f
+  pub inside : c + 4 ^ k ≤ 4 ^ n
+  pub aligned : Aligned k c
+  pub free : Uniform f 0 c (c + 4 ^ k)
+  pub last : (j d : ℕ) → Aligned j d → d < c + 4 ^ k → c + 4 ^ k ≤ d + 4 ^ j → d + 4 ^ j ≤ 4 ^ n →
+      f (d + 4 ^ j - 1) ≡ 0
 
 abbrev pub dotted : (ℕ → ℕ) → ℕ → ℕ → ℕ → ℕ
 dotted f z a = paint f z (z + 1) a

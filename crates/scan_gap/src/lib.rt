@@ -1,12 +1,13 @@
 // A tile list in lent slots with a gap: its words before `front` and those from `back` on. A pixel is put where the gap
 // lies, and merges with its siblings ahead of it before it needs a slot.
 ghost use mathlib.Core.Path.{_≡_};
+ghost use mathlib.Core.Bool.{true};
 ghost use mathlib.Core.List.{_++_};
 ghost use Prim.Native.Nat.{_+_, _-_, _^_, _<_, _≤_};
 ghost use lib.ListN.{length, getD, replicate};
 ghost use Rattle.tile.specs.Tile.{tile, tileOf, highestOrder, highestAccount};
 ghost use Rattle.quadtree.specs.Tiling.{Levels};
-ghost use Rattle.scan_gap.specs.Gap.{held, Fits, Placed, Pushed, Low, Moved};
+ghost use Rattle.scan_gap.specs.Gap.{held, Fits, Placed, Pushed, Low, High, Moved};
 
 // Where the two parts of a list end and start.
 pub struct Gap {
@@ -23,7 +24,7 @@ pub struct Outcome {
 
 // Puts the tile at `corner` of a size and an account behind the front part, where a slot is free for the tile that is
 // left after merging. It merges up to the size `levels`: the largest block that ends with it has this size.
-fn push(
+pub fn push(
     slots: &mut [u32],
     front: usize,
     back: usize,
@@ -88,8 +89,28 @@ fn advance(slots: &mut [u32], front: usize, back: usize, z: u32) -> Gap
     }
 }
 
+// Whether the gap lies at the pixel z already.
+fn lies(slots: &[u32], front: usize, back: usize, z: u32) -> bool
+    requires { ⌜ Fits (now slots) front back ⌝ }
+    ensures { λ r. ⌜ (r ≡ true → Low (now (slots .entry)) front z × High (now (slots .entry)) back z) ⌝ }
+{
+    if 0 < front {
+        let ahead = tile::corner(slots[front - 1]);
+        if z <= ahead {
+            return false;
+        }
+    }
+    if back < slots.len() {
+        let behind = tile::corner(slots[back]);
+        if behind < z {
+            return false;
+        }
+    }
+    true
+}
+
 // Moves the gap to the pixel z.
-fn seek(slots: &mut [u32], front: usize, back: usize, z: u32) -> Gap
+pub fn seek(slots: &mut [u32], front: usize, back: usize, z: u32) -> Gap
     requires { ⌜ Fits (now slots) front back ⌝ }
     ensures { λ r. ⌜ Moved (now (slots .entry)) (now (slots .exit)) front back z r ⌝ }
 {
@@ -121,6 +142,9 @@ pub fn put(
     requires { ⌜ Levels (z + 1) levels ⌝ }
     ensures { λ r. ⌜ Placed (now (slots .entry)) (now (slots .exit)) front back z account r ⌝ }
 {
+    if lies(slots, front, back, z) {
+        return push(slots, front, back, z, 0, levels, account);
+    }
     let g = seek(slots, front, back, z);
     push(slots, g.front, g.back, z, 0, levels, account)
 }

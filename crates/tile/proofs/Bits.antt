@@ -1,4 +1,5 @@
 -- What the shifts of the code compute: the areas of tiles and the word of three fields.
+--     two-four     an even power of two is a power of four
 --     shift-area   1 shifted by twice a size is the area of that size
 --     pack-word    three fields shifted to their places and joined are the tile's word
 --     stop-fits    a tile of any word ends below 2 ^ 32
@@ -9,7 +10,7 @@ use native.Mathlib.Omega.{arith}
 use lib.Bits.{bitOr, or-shifted}
 use Rattle.tile.specs.Tile.{tile, tileOf, wordOf, highestOrder, highestAccount}
 
-two-four : (n : ℕ) → 2 ^ (2 * n) ≡ 4 ^ n
+pub two-four : (n : ℕ) → 2 ^ (2 * n) ≡ 4 ^ n
 two-four zero = refl
 two-four (suc n) =
     let e : 2 * suc n ≡ suc (suc (2 * n)) = omega arith in

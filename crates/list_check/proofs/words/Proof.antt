@@ -1,53 +1,26 @@
--- The loop keeps `Going`: what is ahead is known, and the words from i on decide.
-use lib.Seq.{length-take-le, getD-take}
-use Rattle.list_check.proofs.PassLaws.{Going, going-start, going-end, going-on, going-stop}
-use Prim.Native.Nat.{_-_, _≤_}
+-- A first word that is not sound decides. A list that the flat pass takes is valid, and so accepted. Else the words in
+-- turn have the answer.
+use mathlib.Core.Path.{sym}
 use native.Mathlib.Omega.{arith}
-use lib.ListN.{take, getD}
+use lib.ListN.{take}
 use borrow.Author.Needs.{needs}
+use Rattle.tile.specs.Slots.{tilesIn}
+use Rattle.list_check.proofs.Accepts.{wordsCheck-valid}
+use Rattle.list_check.proofs.PassLaws.{first-decides}
 use Rattle.list_check.proofs.words.Statement.{statement}
 use Rattle.list_check.proofs.words.Tie as tie
 
-abbrev Inv-loop : tie.InvT-loop
-Inv-loop order tiles slots ahead₀ i₀ ahead i = (i ≤ tiles) × Going order (take tiles slots) i ahead
-
-abbrev μ-loop : tie.MeasureT-loop
-μ-loop order tiles slots ahead₀ i₀ ahead i = tiles - i
-
-loop-holds : tie.Need-loop-holds Inv-loop μ-loop
-loop-holds c = (search needs, going-start _ _ (c .start .ensures))
-
-step-requires : tie.Need-step-requires Inv-loop μ-loop
-step-requires c κs = omega (arith, c .before .before .loop .inv .1 .knows .few)
-
-returns : tie.Need-returns Inv-loop μ-loop
+returns : tie.Need-returns
 returns c =
-    let a = c .before .before .before .before .before .before .before .args in
-    let l = c .before .before .before .before .loop in
-    let g = l .inv .1 in
-    let k = length-take-le (a .tiles) (a .slots .now) (omega arith) in
-    going-stop _ _ (l .i) (omega arith) g (getD (a .slots .now) (l .i) 0) (getD-take (a .tiles) (a .slots .now) (l .i) 0 (omega arith))
-    (c .before .step .ensures (g .seen) (g .knows)) (c .if1 .taken)
-
-loop-again : tie.Need-loop-again Inv-loop μ-loop
-loop-again c =
-    let a = c .before .before .before .before .before .before .before .before .args in
-    let l = c .before .before .before .before .before .loop in
-    let g = l .inv .1 in
-    let k = length-take-le (a .tiles) (a .slots .now) (omega arith) in (
-      search needs,
-      going-on _ _ (l .i) (omega arith) g (getD (a .slots .now) (l .i) 0) (getD-take (a .tiles) (a .slots .now) (l .i) 0 (omega arith))
-          (c .before .before .step .ensures (g .seen) (g .knows)) (c .before .if1 .left),
-    )
-
-returns-2 : tie.Need-returns-2 Inv-loop μ-loop
-returns-2 c =
     let a = c .before .before .before .before .args in
-    let l = c .before .loop in
-    let k = length-take-le (a .tiles) (a .slots .now) (omega arith) in
-    going-end _ _ (l .i) (omega arith) (l .inv .1)
+    first-decides (a .order) (a .tiles) (a .slots .now) (omega arith) (omega arith) _ (c .before .sound .ensures) (c .if1 .taken)
+
+returns-2 : tie.Need-returns-2
+unfolding tilesIn
+returns-2 c =
+    let a = c .before .before .before .before .before .before .args in
+    sym (wordsCheck-valid (a .order) (c .before .before .before .before .before .before .pre .0) (take (a .tiles) (a .slots .now)) .1 (c .before .flat .ensures (c .if2 .taken)))
 
 pub words-spec : {M : Type 1} → statement M
 words-spec =
-    tie.close (tie.spec Inv-loop μ-loop (λ c κs. search needs) loop-holds (λ c. search needs) (λ c. search needs) step-requires returns
-    (λ c. search needs) (λ c. search needs) loop-again returns-2)
+    tie.close (tie.spec (λ c. search needs) (λ c κs. search needs) returns (λ c κs. search needs) returns-2 (λ c κs. search needs) (λ c. search needs))

@@ -9,16 +9,16 @@ use Rattle.mapfile_write.proofs.ready.Tie as tie
 
 returns : tie.Need-returns
 unfolding readyCheck
-returns c = rw (sym (c .before .open-check .ensures)) (sym (else-off _ _ (c .if1 .taken)))
+returns c = rw (sym (c .before .open-finished .ensures)) (sym (else-off _ _ (c .if1 .taken)))
 
 finished-requires : tie.Need-finished-requires
 finished-requires c κs =
     let a = c .before .before .before .args in
-    opening-opened (a .scan) (a .slots .now) (sym (c .before .open-check .ensures) ∙ c .if1 .left) .order
+    opening-opened (a .scan) (a .slots .now) (sym (c .before .open-finished .ensures) ∙ c .if1 .left) .order
 
 returns-2 : tie.Need-returns-2
 unfolding readyCheck
-returns-2 c = c .finished .ensures ∙ sym (else-on _ _ (sym (c .before .before .open-check .ensures) ∙ c .before .if1 .left))
+returns-2 c = c .finished .ensures ∙ sym (else-on _ _ (sym (c .before .before .open-finished .ensures) ∙ c .before .if1 .left))
 
 pub ready-spec : {M : Type 1} → statement M
 ready-spec = tie.close (tie.spec (λ c κs. search needs) returns finished-requires returns-2)

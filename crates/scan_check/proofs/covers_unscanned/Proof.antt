@@ -1,58 +1,39 @@
--- The loop keeps that the words from i on decide.
-use Rattle.scan_check.proofs.Unscanned.{word-quadrant, covers-found, covers-on, covers-none}
-use Rattle.scan_check.specs.Opening.{coversUnscanned}
+-- Nothing is left to scan, or there is no tile; else by kind: every tile by rows, the last one in Morton order.
+use mathlib.Core.Path.{_∙_, ap, sym}
+use native.Mathlib.Omega.{arith}
+use borrow.Author.Needs.{needs}
+use Rattle.bed.specs.declared.Kind.{Kind}
 use Rattle.bed.specs.Places.{scanOf}
 use Rattle.tile.specs.Slots.{tilesIn}
-use Rattle.tile.specs.Slots as words
-use mathlib.Core.Path.{_≡_, _∙_, refl, sym}
-use Prim.Native.Nat.{_-_, _≤_}
-use native.Mathlib.Omega.{arith}
-use lib.ListN.{take, drop}
-use borrow.Author.Needs.{needs}
+use Rattle.scan_check.specs.Opening.{coversUnscanned}
+use Rattle.scan_check.proofs.ScannedLaws.{whole-clear}
+use Rattle.scan_check.proofs.ByMorton.{covers-empty, morton-last}
 use Rattle.scan_check.proofs.covers_unscanned.Statement.{statement}
 use Rattle.scan_check.proofs.covers_unscanned.Tie as tie
 
-abbrev Inv-loop : tie.InvT-loop
-Inv-loop slots kind order pixels tiles i₀ i =
-    (i ≤ tiles) × (coversUnscanned (scanOf kind order pixels tiles) (tilesIn tiles slots)
-    ≡ coversUnscanned (scanOf kind order pixels tiles) (words.tiles (drop i (take tiles slots))))
-
-abbrev μ-loop : tie.MeasureT-loop
-μ-loop slots kind order pixels tiles i₀ i = tiles - i
-
-loop-holds : tie.Need-loop-holds Inv-loop μ-loop
-unfolding tilesIn
-loop-holds c = (omega arith, refl)
-
-covers-requires : tie.Need-covers-requires Inv-loop μ-loop
-covers-requires c κs =
-    let a = c .before .before .before .before .args in
-    let p = c .before .before .before .before .pre in
-    (p .0 .0, word-quadrant (a .slots .now) (a .scan .tiles) (c .before .before .loop .i) (omega arith) (omega arith) (p .1))
-
-returns : tie.Need-returns Inv-loop μ-loop
+returns : tie.Need-returns
 returns c =
-    let a = c .before .before .before .before .before .before .args in
-    let l = c .before .before .before .before .loop in
-    sym (l .inv .1 ∙ covers-found (a .slots .now) (a .scan .tiles) (l .i) (omega arith) (omega arith) (a .scan) (sym (c .before .covers .ensures) ∙
-    c .if1 .taken))
-
-loop-again : tie.Need-loop-again Inv-loop μ-loop
-loop-again c =
-    let a = c .before .before .before .before .before .before .args in
-    let l = c .before .before .before .before .loop in (
-      omega arith,
-      l .inv .1 ∙ covers-on (a .slots .now) (a .scan .tiles) (l .i) (omega arith) (omega arith) (a .scan) (sym
-          (c .before .covers .ensures) ∙ c .if1 .left),
-    )
-
-returns-2 : tie.Need-returns-2 Inv-loop μ-loop
-returns-2 c =
     let a = c .before .before .before .args in
-    let l = c .before .loop in
-    sym (l .inv .1 ∙ covers-none (a .scan) (a .slots .now) (a .scan .tiles) (l .i) (omega arith) (omega arith))
+    sym (whole-clear (a .scan) (tilesIn (a .scan .tiles) (a .slots .now)) (c .before .before .before .pre .1) (omega (arith, c .before .area .ensures, c .if1 .taken)))
+
+returns-2 : tie.Need-returns-2
+returns-2 c = sym (covers-empty (c .before .before .before .before .args .scan) (c .before .before .before .before .args .slots .now) (c .before .before .before .before .args .scan .tiles) (c .if2 .taken))
+
+returns-3 : tie.Need-returns-3
+returns-3 c =
+    let a = c .before .before .before .before .before .before .before .args in
+    let s = a .scan in
+    c .rows-unscanned .ensures ∙ ap (λ (k : Kind). coversUnscanned (scanOf k (s .order) (s .pixels) (s .tiles)) (tilesIn (s .tiles) (a .slots .now))) (sym (c .before .enum-told .given .1))
+
+returns-4 : tie.Need-returns-4
+returns-4 c =
+    let a = c .before .before .before .before .before .before .before .before .args in
+    morton-last (a .scan) (a .slots .now) (c .before .before .enum-told2 .given .1) (c .before .before .before .before .before .before .before .before .pre .1) (omega (arith, c .before .before .before .before .if2 .left)) (omega arith) _ (c .stop .ensures)
+
+rows-unscanned-requires : tie.Need-rows-unscanned-requires
+rows-unscanned-requires c κs = ((c .before .before .before .before .before .before .pre .0 .0, omega (arith, c .before .before .before .before .area .ensures, c .before .before .before .if1 .left), c .before .before .before .before .before .before .pre .0 .1), c .before .before .before .before .before .before .pre .1)
 
 pub covers-unscanned-spec : {M : Type 1} → statement M
 covers-unscanned-spec =
-    tie.close (tie.spec Inv-loop μ-loop loop-holds (λ c. search needs) (λ c. search needs) covers-requires returns (λ c. search needs)
-    (λ c. search needs) loop-again returns-2)
+    tie.close (tie.spec (λ c κs. search needs) returns returns-2 (λ c. search needs) rows-unscanned-requires (λ c. search needs) (λ c. search needs)
+    (λ c. search needs) (λ c. search needs) (λ c κs. search needs) returns-3 returns-4)

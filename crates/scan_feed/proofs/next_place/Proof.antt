@@ -21,21 +21,31 @@ row-levels-requires c κs =
     let p = c .before .before .before .pre in
     place-sides (a .order) (a .pixels) (p .0) (p .1)
 
-morton-levels-requires : tie.Need-morton-levels-requires
-morton-levels-requires c κs = let big : 4 ^ c .before .before .args .order ≤ 4 ^ highestOrder = area-mono (c .before .before .pre .0) in omega arith
+add-levels-of : tie.Need-add-levels-of
+add-levels-of c =
+    let args = c .before .before .args in
+    let pre = c .before .before .pre in
+    let big : 4 ^ args .order ≤ 4 ^ highestOrder = area-mono (pre .0) in omega arith
+
+levels-of-requires : tie.Need-levels-of-requires
+levels-of-requires c κs =
+    let args = c .before .before .args in
+    let pre = c .before .before .pre in
+    let big : 4 ^ args .order ≤ 4 ^ highestOrder = area-mono (pre .0) in (omega arith, omega arith)
 
 returns : tie.Need-returns
 returns c =
+    let enum-told = c .before .before .enum-told in
     let a = c .before .before .before .before .args in
     let p = c .before .before .before .before .pre in
-    place-rows (a .order) (a .pixels) (p .0) (p .1) _ _ (c .before .before .enum-told .given .1) (c .before .number .ensures) (c .row-levels .ensures)
+    place-rows (a .order) (a .pixels) (p .0) (p .1) _ _ (enum-told .given .1) (c .before .number .ensures) (c .row-levels .ensures)
 
 returns-2 : tie.Need-returns-2
 returns-2 c =
     let a = c .before .before .before .args in
-    place-morton (a .kind) (a .order) (a .pixels) _ (c .before .enum-told2 .given .1) refl (c .morton-levels .ensures)
+    place-morton (a .kind) (a .order) (a .pixels) _ (c .before .enum-told2 .given .1) refl (c .levels-of .ensures)
 
 pub next-place-spec : {M : Type 1} → statement M
 next-place-spec =
     tie.close (tie.spec (λ c. search needs) (λ c. search needs) (λ c. search needs) sub-column (λ c κs. search needs) row-levels-requires (λ c. search
-    needs) morton-levels-requires returns returns-2)
+    needs) add-levels-of levels-of-requires returns returns-2)

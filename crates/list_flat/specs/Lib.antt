@@ -1,0 +1,2 @@
+-- List checking without a branch in the loop.
+pub mod Clear

@@ -1,0 +1,2 @@
+-- Bands put at once.
+pub mod Banded

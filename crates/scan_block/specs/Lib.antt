@@ -1,0 +1,2 @@
+-- Blocks put in Morton order.
+pub mod Blocks

@@ -1,0 +1,1 @@
+// Laws of a stretch of a scan's places to which accounts are fed; no code.

@@ -1,0 +1,2 @@
+-- What can be put at once.
+pub mod Suits

@@ -1,0 +1,3 @@
+-- Laws of what accounts weigh.
+--     Weighing   bytes looked at in turn
+pub mod Weighing

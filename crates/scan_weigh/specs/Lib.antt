@@ -1,0 +1,2 @@
+-- What accounts weigh.
+pub mod Weighed
