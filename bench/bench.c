@@ -11,35 +11,7 @@
 
 #include <string.h>
 
-typedef kb_fresh_answer fresh_call(uint32_t, uint32_t, uint32_t *, size_t);
-typedef kb_feed_answer feed_call(uint32_t, uint32_t, uint32_t, size_t, uint32_t *, size_t, const uint8_t *, size_t);
-
-/* A scan in pieces of a length with m slots; returns the tile count. */
-static size_t scan(struct bench *b, fresh_call *fresh, feed_call *feed, uint32_t kind, size_t m, size_t piece)
-{
-    const uint8_t *accounts = kind == KB_ROWS ? b->rows : b->morton;
-    kb_fresh_answer record = fresh(kind, b->order, b->slots, m);
-    uint32_t pixels = record.pixels;
-    size_t tiles = record.tiles;
-    for (size_t done = 0; done < b->scanned; done += piece) {
-        kb_feed_answer fed = feed(kind, b->order, pixels, tiles, b->slots, m, accounts + done, piece);
-        must(fed.number);
-        pixels = fed.pixels;
-        tiles = fed.tiles;
-    }
-    return tiles;
-}
-
-/* A whole scan by document 001's algorithm. */
-static void linked_scan(struct bench *b)
-{
-    size_t side = (size_t)1 << b->order;
-    linked_fresh(b->linked);
-    for (size_t row = 0; row < side; row++)
-        linked_row(b->linked, b->rows + row * side);
-}
-
-static void same(struct bench *b, const uint32_t *list, size_t tiles, const char *what)
+void same(struct bench *b, const uint32_t *list, size_t tiles, const char *what)
 {
     if (tiles != b->tiles || memcmp(list, b->list, tiles * sizeof *list)) {
         fprintf(stderr, "bench: %s gives another list\n", what);
@@ -69,45 +41,12 @@ static void set_up(struct bench *b, int kind, uint32_t order)
     b->room = most > morton ? most : morton;
 }
 
-/* The scan by rows of the same bed, half done. */
-static void halve(struct bench *b)
+void halve(struct bench *b)
 {
     size_t half = b->scanned /= 2;
     b->tiles = scan(b, kb_fresh, kb_feed, KB_ROWS, b->room, half);
     memcpy(b->list, b->slots, b->tiles * sizeof *b->list);
     same(b, b->slots, scan(b, straight_fresh, straight_feed, KB_ROWS, b->room, half), "straightforward C half done");
-}
-
-/* The ways to build a list that the table of feeds compares. */
-enum { OURS, STRAIGHT, OURS_BY_ROW, STRAIGHT_BY_ROW, BUILT, OTHER, WAYS };
-
-static void build_once(struct bench *b, uint32_t kind, int way)
-{
-    size_t m = b->room, all = b->pixels, row = (size_t)1 << b->order;
-    switch (way) {
-    case OURS: scan(b, kb_fresh, kb_feed, kind, m, all); break;
-    case STRAIGHT: scan(b, straight_fresh, straight_feed, kind, m, all); break;
-    case OURS_BY_ROW: scan(b, kb_fresh, kb_feed, kind, m, row); break;
-    case STRAIGHT_BY_ROW: scan(b, straight_fresh, straight_feed, kind, m, row); break;
-    case BUILT: bottom_up(b->order, b->rows, b->other); break;
-    default: kind == KB_ROWS ? linked_scan(b) : (void)morton_stack(b->morton, all, b->other);
-    }
-}
-
-/* Half a row of the table of feeds, by kind: all ways in turns, the long ones in the first turn only. */
-static void feeds(struct bench *b, uint32_t kind)
-{
-    struct timing ways[WAYS] = {0};
-    double all = (double)b->pixels;
-    for (int turn = 0; turn < TURNS; turn++)
-        for (int way = 0; way < WAYS; way++)
-            if (turn == 0 || ways[way].times[0] <= LONG)
-                TIME(ways[way].times[ways[way].turns++], build_once(b, kind, way))
-    const struct timing *ours = ways + OURS, *by_row = ways + OURS_BY_ROW, *other = ways + OTHER;
-    printf("| %.2f | %.2f | %.2f ", least(ours) / all, ratio(ours, ways + STRAIGHT), ratio(ours, other));
-    if (kind == KB_ROWS)
-        printf("| %.2f ", ratio(ours, ways + BUILT));
-    printf("| %.2f | %.2f | %.2f ", least(by_row) / all, ratio(by_row, ways + STRAIGHT_BY_ROW), ratio(by_row, other));
 }
 
 typedef kb_combine_answer combine_call(uint32_t, uint32_t, size_t, const uint32_t *, size_t,
@@ -144,28 +83,39 @@ static void combines(struct bench *b)
     }
 }
 
-static void all_feeds(struct bench *b)
-{
-    printf("| %zu ", b->room);
-    feeds(b, KB_ROWS);
-    feeds(b, KB_MORTON);
-}
-
-/* The tables: what stands above each; what makes a row of it, behind the order, the bed and its tiles; and whether a
-   scan of boards half done has a row too. */
+/* The tables: what stands above each; what makes a row of it, behind the order, the bed and its tiles; how many of the
+   kinds of beds have rows; whether each has a second one, with a slot lent for each pixel; and whether a scan of boards
+   half done has a row too. */
 static const struct table {
     const char *name, *above;
     void (*row)(struct bench *);
-    int half;
+    int beds, more_slots, half;
 } tables[] = {
-    {"feeds",
-     "Feeds: nanoseconds for each pixel, then the library's time divided by that of each other way. Every feed of the "
-     "library and of the plain C\nchecks the whole list and clears the slots past it; the other ways keep their list "
-     "between rows and check nothing.\n\n"
-     "| order | bed | tiles | slots lent | rows, at once | plain C | 001 | bottom-up | rows, row by row | plain C "
-     "| 001 | Morton, at once | plain C | stack | Morton, row by row | plain C | stack |\n"
-     "|---|---|---|---|---|---|---|---|---|---|---|---|---|---|---|---|---|\n",
-     all_feeds, 0},
+    {"feeds by rows",
+     "Feeds by rows: nanoseconds for each pixel, then the library's time divided by that of each other way. The slots\n"
+     "lent are just enough for a scan of either kind, then one for each pixel. Every feed of the library and of plain\n"
+     "C makes the opening checks and clears the slots past its list; the other ways keep their list between rows and\n"
+     "check nothing. \"Without checks\" is 64 rows at a time less the time that the opening checks of these feeds take\n"
+     "alone. A bed that has fewer rows is then fed at once.\n\n"
+     "| order | bed | tiles | slots lent | at once | plain C | 001 | bottom-up | 64 rows at a time | 001 "
+     "| without checks | 001 | row by row | plain C | 001 |\n"
+     "|---|---|---|---|---|---|---|---|---|---|---|---|---|---|---|\n",
+     feeds_by_rows, BED_KINDS, 1, 0},
+    {"feeds in Morton order",
+     "\nFeeds in Morton order: nanoseconds for each pixel, then the library's time divided by that of each other way,\n"
+     "with the same slots lent. The stack keeps its list between feeds and checks nothing.\n\n"
+     "| order | bed | tiles | slots lent | at once | plain C | stack | row by row | plain C | stack |\n"
+     "|---|---|---|---|---|---|---|---|---|---|\n",
+     feeds_in_morton_order, BED_KINDS, 1, 0},
+    {"opening checks",
+     "\nOpening checks: nanoseconds × the library's time divided by that of straightforward C. The list check for\n"
+     "each tile, accepted and refused at the last word, and for a call, refused at the first. Then of the scan by\n"
+     "rows half done: 22 alone, which is the opening checks less the list check, for each tile; and for a call, the\n"
+     "next row fed and a lookup.\n\n"
+     "| order | bed | tiles | check | refused at the last word | refused at the first | tiles half done | slots lent "
+     "| 22 alone | a row fed | lookup |\n"
+     "|---|---|---|---|---|---|---|---|---|---|---|\n",
+     openings, BED_KINDS - 1, 0, 0},
     {"calls",
      "\nOther calls: nanoseconds for each tile (decode: pixel; fresh: slot) × the library's time divided by that of "
      "straightforward C.\nEvery call but read and fresh checks the whole list first. For the roster, straightforward C "
@@ -174,14 +124,14 @@ static const struct table {
      "file.\n\n"
      "| order | bed | tiles | check | lookup | part | rights | preview | claim | write | read | decode | fresh |\n"
      "|---|---|---|---|---|---|---|---|---|---|---|---|---|\n",
-     calls, 1},
+     calls, BED_KINDS, 0, 1},
     {"combine",
      "\nCombine: the bed inside and outside of reserved zones, 8 large rectangles. Nanoseconds for each tile of both "
      "maps and of the third\n× the library's time divided by that of straightforward C. Both check the two lists "
      "first.\n\n"
      "| order | bed | tiles | zones' tiles | tiles inside | inside | tiles outside | outside |\n"
      "|---|---|---|---|---|---|---|---|\n",
-     combines, 0},
+     combines, BED_KINDS, 0, 0},
 };
 
 static void print_row(const struct table *table, struct bench *b, const char *bed, const char *how)
@@ -198,9 +148,13 @@ static void print(const struct table *table, struct bench *b, uint32_t lowest, u
     printf("%s", table->above);
     for (uint32_t order = lowest; order <= highest; order++) {
         b->linked = linked_new(order);
-        for (int kind = 0; kind < BED_KINDS; kind++) {
+        for (int kind = 0; kind < table->beds; kind++) {
             set_up(b, kind, order);
             print_row(table, b, bed_names[kind], "");
+            if (table->more_slots) {
+                b->room = b->pixels;
+                print_row(table, b, bed_names[kind], "");
+            }
             if (kind == 0 && table->half) {
                 halve(b);
                 print_row(table, b, bed_names[kind], ", half done");
@@ -305,6 +259,7 @@ int main(int argc, char **argv)
         return 1;
     for (size_t i = 0; i < sizeof tables / sizeof *tables; i++)
         print(tables + i, &b, lowest, highest);
+    short_lists(&b, highest);
     lookups(lowest, highest);
     rosters(&b, highest);
     mils();

@@ -16,25 +16,27 @@ static inline double now(void)
     return (double)t.tv_sec * 1e9 + (double)t.tv_nsec;
 }
 
-/* Sets `result` to the nanoseconds of processor time of the statements: the mean of a batch. */
-#define TIME(result, ...)                                          \
-    for (long runs = 1;; runs *= 2) {                              \
-        double begin = now();                                      \
-        for (long run = 0; run < runs; run++) {                    \
-            __VA_ARGS__;                                           \
-        }                                                          \
-        double spent = now() - begin;                              \
-        if (spent >= BATCH) {                                      \
-            (result) = spent / (double)runs;                       \
-            break;                                                 \
-        }                                                          \
-    }
-
-/* The times of one way, turn by turn. */
+/* The times of one way, turn by turn, and how often a batch runs it. */
 struct timing {
     int turns;
+    long runs;
     double times[TURNS];
 };
+
+/* Adds a turn to the times of a way: the nanoseconds of processor time that the statements take, the mean of a batch.
+   A batch begins with as many runs as the one before it had, and has twice as many until it takes long enough. */
+#define TIME(way, ...)                                                     \
+    for ((way).runs = (way).turns ? (way).runs : 1;; (way).runs *= 2) {    \
+        double begin = now();                                              \
+        for (long run = 0; run < (way).runs; run++) {                      \
+            __VA_ARGS__;                                                   \
+        }                                                                  \
+        double spent = now() - begin;                                      \
+        if (spent >= BATCH) {                                              \
+            (way).times[(way).turns++] = spent / (double)(way).runs;       \
+            break;                                                         \
+        }                                                                  \
+    }
 
 static inline double least(const struct timing *way)
 {
@@ -62,13 +64,23 @@ static inline double ratio(const struct timing *way, const struct timing *other)
     return quotients[turns / 2];
 }
 
+/* One way's time less another's, turn by turn. */
+static inline struct timing less(const struct timing *way, const struct timing *other)
+{
+    struct timing left = *way;
+    left.turns = way->turns < other->turns ? way->turns : other->turns;
+    for (int turn = 0; turn < left.turns; turn++)
+        left.times[turn] -= other->times[turn];
+    return left;
+}
+
 /* Times two statements in turns; in a single turn where it takes long. */
 #define BOTH(ours, our_call, other, other_call)                    \
     do {                                                           \
         (ours).turns = (other).turns = 0;                          \
         for (int turn = 0; turn < TURNS; turn++) {                 \
-            TIME((ours).times[(ours).turns++], our_call)           \
-            TIME((other).times[(other).turns++], other_call)       \
+            TIME(ours, our_call)                                   \
+            TIME(other, other_call)                                \
             if ((ours).times[turn] > LONG)                         \
                 break;                                             \
         }                                                          \

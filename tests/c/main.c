@@ -20,6 +20,8 @@ int main(void)
     test_empty();
     test_fresh();
     test_feed();
+    test_feed_many();
+    test_feed_uniform();
     test_claim();
     test_preview();
     test_accounts();

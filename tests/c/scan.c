@@ -52,29 +52,6 @@ void test_fresh(void)
     CHECK(scan.slots == others && scan.slots_length == 3 && others[0] == 0 && others[2] == 0);
 }
 
-void test_feed(void)
-{
-    uint32_t slots[2];
-    const uint8_t bad[3] = {7, 64, 7}, good[3] = {7, 7, 7}, scattered[4] = {1, 2, 3, 4};
-    kb_scan scan = NO_SCAN;
-    CHECK(kb_scan_fresh(&scan, KB_ROWS, 1, slots, 2) == KB_ACCEPTED);
-    kb_feed_answer fed = kb_scan_feed(&scan, bad, 3);
-    CHECK(fed.number == KB_ACCOUNT_TOO_LARGE && fed.taken == 1 && scan.pixels == 1 && scan.tiles == 1);
-    fed = kb_scan_feed(&scan, good, 1);
-    CHECK(fed.number == KB_ACCEPTED && scan.pixels == 2 && scan.tiles == 2);
-    fed = kb_scan_feed(&scan, good, 1);
-    CHECK(fed.number == KB_SLOTS_EXCEEDED && fed.taken == 0 && scan.pixels == 2 && scan.tiles == 2);
-
-    CHECK(kb_scan_fresh(&scan, KB_ROWS, 1, slots, 2) == KB_ACCEPTED);
-    fed = kb_scan_feed(&scan, scattered, 4);
-    CHECK(fed.number == KB_SLOTS_EXCEEDED && fed.taken == 2 && scan.pixels == 2 && scan.tiles == 2);
-    kb_scan before = scan;
-    slots[0] = UINT32_MAX;
-    fed = kb_scan_feed(&scan, good, 1);
-    CHECK(fed.number == KB_HIGH_BITS_SET && fed.taken == 0 && same(&scan, &before));
-    CHECK(kb_scan_check(&scan) == KB_HIGH_BITS_SET);
-}
-
 void test_claim(void)
 {
     uint32_t slots[6], kept[6];

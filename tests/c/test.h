@@ -31,6 +31,8 @@ void test_mils(void);
 void test_empty(void);
 void test_fresh(void);
 void test_feed(void);
+void test_feed_many(void);
+void test_feed_uniform(void);
 void test_claim(void);
 void test_preview(void);
 void test_accounts(void);

@@ -6,6 +6,7 @@
 //!     cargo test --test compare -- --seed 12345                 the same cases again
 //!     cargo test --test compare -- --group lists --case 678     one case again, as a failure prints it
 
+mod bands;
 mod changing;
 mod checks;
 mod combine;
@@ -42,20 +43,22 @@ struct Group {
 }
 
 /// Once, first.
-const ONCE: [Group; 7] = [
+const ONCE: [Group; 8] = [
     Group { name: "worked", case: |_, count| worked::lines(count), round: 1 },
     Group { name: "checks", case: |_, count| checks::in_order(count), round: 1 },
     Group { name: "limits", case: |_, count| limits::all(count), round: 1 },
     Group { name: "rosters", case: |_, count| rosters::all(count), round: 1 },
     Group { name: "every-point", case: |_, count| points::all(count), round: 1 },
     Group { name: "every-position", case: |_, count| mils::all(count), round: 1 },
+    Group { name: "every-feed", case: bands::all, round: 1 },
     Group { name: "patterns", case: large::patterns, round: 1 },
 ];
 
 /// Round after round until the time is over.
-const ROUNDS: [Group; 10] = [
+const ROUNDS: [Group; 11] = [
     Group { name: "sequences", case: sequences::case, round: 1000 },
     Group { name: "scans", case: scans::case, round: 500 },
+    Group { name: "bands", case: bands::case, round: 100 },
     Group { name: "lists", case: damage::list_case, round: 5000 },
     Group { name: "files", case: damage::file_case, round: 5000 },
     Group { name: "combine", case: combine::case, round: 1000 },
