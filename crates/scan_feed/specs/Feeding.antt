@@ -25,10 +25,11 @@ use Rattle.quadtree.specs.Quadtree.{quadtree}
 use Rattle.bed.specs.declared.Kind.{Kind}
 use Rattle.bed.specs.declared.Kind.the-variants.{Morton}
 use Rattle.bed.specs.declared.Scan.{Scan}
-use Rattle.bed.specs.Places.{placeOf, pixelAt}
+use Rattle.bed.specs.Places.{pixelAt}
 use Rattle.bed.specs.Bed as bed
 use Rattle.quadtree.specs.Tiling.{Levels}
 use Rattle.scan_gap.specs.Gap.{held, Fits, Low}
+use Rattle.scan_stretch.specs.Stretch.{Blank}
 use Rattle.scan_feed.specs.declared.Place.{Place}
 use Rattle.scan_feed.specs.declared.AfterPixel.{AfterPixel}
 use Rattle.scan_feed.specs.declared.AfterPixels.{AfterPixels}
@@ -44,7 +45,7 @@ Trails k s i b p = k ≡ Morton → (b ≡ length s) × Low s i p
 pub record Holds (k : Kind) (n s : ℕ) (f : ℕ → ℕ) (ts : List Tile) : Type 0 where
   pub is : ts ≡ quadtree n f
   pub within : s ≤ 4 ^ n
-  pub blank : (z : ℕ) → z < 4 ^ n → s ≤ placeOf k n z → f z ≡ 0
+  pub blank : Blank k n s f
 
 pub record SteppedOn (m : ℕ) (b : bed.Bed) (a r : ℕ) (ts us : List Tile) : Type 0 where
   pub number : r ≡ bed.pixelCheck m b a
