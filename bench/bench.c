@@ -259,6 +259,7 @@ int main(int argc, char **argv)
         return 1;
     for (size_t i = 0; i < sizeof tables / sizeof *tables; i++)
         print(tables + i, &b, lowest, highest);
+    refused_lists(&b, highest);
     short_lists(&b, highest);
     lookups(lowest, highest);
     rosters(&b, highest);

@@ -83,7 +83,8 @@ void feeds_in_morton_order(struct bench *b);
 void openings(struct bench *b);
 void calls(struct bench *b);
 
-/* The table of short lists. */
+/* The tables of refused lists and of short ones. */
+void refused_lists(struct bench *b, uint32_t order);
 void short_lists(struct bench *b, uint32_t order);
 
 /* The table of lookups. */

@@ -1,4 +1,4 @@
-/* The tables of the opening checks and of short lists. */
+/* The tables of the opening checks, of refused lists and of short ones. */
 #include "bench.h"
 #include "builds.h"
 #include "straight.h"
@@ -90,6 +90,33 @@ void openings(struct bench *b)
     half_done(b);
 }
 
+static void make_boards(struct bench *b, uint32_t order)
+{
+    b->order = order;
+    make_bed(0, order, b->rows);
+    b->tiles = bottom_up(order, b->rows, b->list);
+}
+
+void refused_lists(struct bench *b, uint32_t order)
+{
+    static const size_t places[] = {1, 2, 3, 4, 6, 8, 9, 10, 12, 14, 16, 24, 32, 48, 64, 128, 256, 512, 1024, 4096};
+    make_boards(b, order);
+    printf("\nRefused lists: the list of boards, in which one word is nobody's. Nanoseconds for a list check × the "
+           "library's\ntime divided by that of straightforward C.\n\n| order | word | refused |\n|---|---|---|\n");
+    for (size_t i = 0; i < sizeof places / sizeof *places; i++)
+        if (places[i] + 5 < b->tiles) {
+            printf("| %u | %zu ", order, places[i]);
+            check_refused(b, places[i] - 1, 1);
+            printf("|\n");
+        }
+    for (size_t behind = 6; behind > 0; behind -= 2) {
+        printf("| %u | %zu ", order, b->tiles + 2 - behind);
+        check_refused(b, b->tiles + 1 - behind, 1);
+        printf("|\n");
+    }
+    fflush(stdout);
+}
+
 #define MOST_TILES 1024
 
 typedef uint32_t check_call(uint32_t, size_t, const uint32_t *, size_t);
@@ -105,16 +132,18 @@ static size_t check_stretches(const struct bench *b, check_call *check, size_t l
 
 void short_lists(struct bench *b, uint32_t order)
 {
+    static const size_t lengths[] = {1, 2, 3, 4, 6, 8, 9, 12, 16, 24, 32};
+    size_t count = sizeof lengths / sizeof *lengths;
     struct timing ours, straight;
     printf("\nShort lists: the first %d tiles of boards, cut in lists of so many tiles. Nanoseconds for a list check "
-           "×\nthe library's time divided by that of straightforward C.\n\n"
-           "| order | 1 tile | 2 tiles | 4 tiles | 8 tiles | 16 tiles |\n|---|---|---|---|---|---|\n", MOST_TILES);
+           "×\nthe library's time divided by that of straightforward C.\n\n| order ", MOST_TILES);
     fprintf(stderr, "short lists, order %u\n", order);
-    b->order = order;
-    make_bed(0, order, b->rows);
-    b->tiles = bottom_up(order, b->rows, b->list);
-    printf("| %u ", order);
-    for (size_t length = 1; length <= 16; length *= 2) {
+    for (size_t i = 0; i < count; i++)
+        printf("| %zu ", lengths[i]);
+    printf("|\n|---|---|---|---|---|---|---|---|---|---|---|---|\n| %u ", order);
+    make_boards(b, order);
+    for (size_t i = 0; i < count; i++) {
+        size_t length = lengths[i];
         BOTH(ours, check_stretches(b, kb_check, length), straight, check_stretches(b, straight_check, length));
         cell(&ours, &straight, check_stretches(b, kb_check, length));
     }

@@ -61,7 +61,7 @@
 #include <stddef.h>
 #include <stdint.h>
 
-#define KB_VERSION "0.9.1"
+#define KB_VERSION "0.9.2"
 
 /* An answer that is dropped is a mistake, of which the compiler warns. */
 #if (defined(__cplusplus) && __cplusplus >= 201703L) || (defined(__STDC_VERSION__) && __STDC_VERSION__ >= 202311L)

@@ -155,11 +155,15 @@ pub extern "C" fn kb_tile_account(word: u32) -> u8
 pub extern "C" fn kb_check(order: u32, tiles: usize, slots: &[u32]) -> u32
     ensures { λ r. ⌜ r ≡ listCheck order tiles (now (slots .entry)) ⌝ }
 {
-    // A short list is checked in place, since a call would cost more.
-    if tiles < list_check::SHORT {
-        return list_check::check_short(order, tiles, slots);
+    // The first words are checked in place: a call would cost more.
+    let number = list_check::check_head(order, tiles, slots);
+    if number != refusal::ACCEPTED {
+        return number;
     }
-    list_check::check(order, tiles, slots)
+    if tiles <= list_check::HEAD {
+        return refusal::ACCEPTED;
+    }
+    list_check::check_words(order, list_check::HEAD, &slots[..tiles])
 }
 
 #[no_mangle]

@@ -1,4 +1,5 @@
 -- List checking accepts just the valid lists.
+--     passed, passes     a word breaks no check just where its tile is sound and not the last of four siblings
 --     wordsCheck-valid   words are accepted just where their tiles are a valid list
 --     listCheck-valid    the offered call accepts just an order, a count and a valid list that are within bounds
 --     listCheck-order    the order of an accepted list
@@ -24,20 +25,20 @@ use Rattle.list_check.proofs.OneWord.{sound-passed, sound-passes}
 use Rattle.list_check.proofs.LastOfFour.{Last, test-last}
 
 -- what a word that passes has
-record Passed (n : ℕ) (seen : List Tile) (w rest : ℕ) : Type 0 where
-  sound : Sound n (ended seen) (tileOf w)
-  merged : Last seen (tileOf w) → ⊥
-  on : rest ≡ accepted
+pub record Passed (n : ℕ) (seen : List Tile) (w rest : ℕ) : Type 0 where
+  pub sound : Sound n (ended seen) (tileOf w)
+  pub merged : Last seen (tileOf w) → ⊥
+  pub on : rest ≡ accepted
 
 module _ (n : ℕ) (seen : List Tile) (w rest : ℕ) where
-  passed : wordCheck n seen w rest ≡ accepted → Passed n seen w rest
+  pub passed : wordCheck n seen w rest ≡ accepted → Passed n seen w rest
   unfolding wordCheck
   passed e =
       let s = else-inv _ _ e in
       let l = must-inv (test-not (test-last seen (tileOf w))) (omega arith) (s .1) in
       record { sound = sound-passed n (ended seen) w (s .0); merged = l .0; on = l .1 }
 
-  passes : n ≤ highestOrder → Passed n seen w rest → wordCheck n seen w rest ≡ accepted
+  pub passes : n ≤ highestOrder → Passed n seen w rest → wordCheck n seen w rest ≡ accepted
   unfolding wordCheck
   passes h p = else-on _ _ (sound-passes n (ended seen) w h (p .sound)) ∙ must-pass siblingsUnmerged (test-not (test-last seen (tileOf w))) (p .merged) (p .on)
 

@@ -1,7 +1,6 @@
 -- What the test of check 16 tests.
 --     Last seen t   t is the last of four siblings, whose others are the last three tiles seen
 --     test-last     `lastOfFour` is its test
---     test-first    the test of the place of the first of four siblings
 use mathlib.Core.Path.{ap}
 use mathlib.Core.List.{List, [], _∷_}
 use Prim.Native.Nat.{suc, _+_}
@@ -19,7 +18,7 @@ Last (z ∷ []) t = ⊥
 Last (z ∷ y ∷ []) t = ⊥
 Last (z ∷ y ∷ x ∷ seen) t = Siblings x y z t
 
-pub test-first : (t : Tile) → Test (Aligned (suc (t .size)) (t .corner)) (aligned (t .size + 1) (t .corner))
+test-first : (t : Tile) → Test (Aligned (suc (t .size)) (t .corner)) (aligned (t .size + 1) (t .corner))
 test-first t = rw (add-one (t .size)) (test-aligned (suc (t .size)) (t .corner))
 
 test-follows : (t u : Tile) → Test (Follows t u) (follows t u)

@@ -1,24 +1,30 @@
-// List checking in one pass, which keeps four numbers of the tiles that it has seen. Most valid lists are spared it by
-// list_flat, which is faster and does not know why it refuses.
+// List checking word by word, which keeps where the last tile ends and the words of the last three. A list's first words
+// are checked so; list_flat, which is faster and does not say what is wrong, then tells how far the words are clear, and
+// those behind are checked word by word again.
 ghost use mathlib.Core.Path.{_≡_};
 ghost use mathlib.Core.List.{List, []};
-ghost use Prim.Native.Nat.{_≤_};
+ghost use Prim.Native.Nat.{ℕ, _≤_};
 ghost use lib.ListN.{length, take};
-ghost use Rattle.tile.specs.Tile.{Tile, tile, highestOrder};
-ghost use Rattle.list_check.specs.ListCheck.{soundCheck, wordsCheck, listCheck};
-ghost use Rattle.list_check.specs.Pass.{siblingsWith, countCheck, Knows, Judges};
+ghost use Rattle.basics.specs.Test.{Test};
+ghost use Rattle.refusal.specs.Refusal.{accepted};
+ghost use Rattle.tile.specs.Tile.{Tile, tileOf, highestOrder};
+ghost use Rattle.quadtree.specs.Valid.{Sound};
+ghost use Rattle.list_check.specs.ListCheck.{lastOfFour, ended, soundCheck, wordsCheck, listCheck};
+ghost use Rattle.list_check.specs.Pass.{Knows, Judges, Going, seenAt, FrontPasses, head, Begun};
 
-// A list of fewer tiles is short: it gains nothing by the flat pass. For so few the compiler unrolls the loop of
-// `exact`, which it does not for more than eight.
-pub const SHORT: usize = 9;
+// How many words are in a list's head, which is checked in place. The compiler unrolls a loop of so many, and of no more.
+pub const HEAD: usize = 8;
 
-// What the pass keeps of the tiles ahead: where the last one stops, its size and account, and how many siblings in a
-// row, from the first of the four on, end with it.
+// A list of fewer tiles gains nothing by the flat pass.
+const FEW: usize = 16;
+
+// What the pass keeps of the tiles ahead: where the last one ends, and the words of the last three, which are 0 where
+// there is none.
 pub struct Ahead {
     pub stop: u32,
-    pub size: u32,
-    pub account: u8,
-    pub siblings: u32,
+    pub first: u32,
+    pub second: u32,
+    pub third: u32,
 }
 
 // What a step says of a word: its refusal, or that it is accepted and what is ahead of the next word.
@@ -33,10 +39,59 @@ pub fn start() -> Ahead
 {
     Ahead {
         stop: 0,
-        size: 0,
-        account: 0,
-        siblings: 0,
+        first: 0,
+        second: 0,
+        third: 0,
     }
+}
+
+// Whether the word breaks none of checks 11 to 15, where the tile ahead of it ends at `stop`. A tile that ends on the bed
+// is no larger than it and starts there, and a word with a high bit set has no such tile.
+fn plain(order: u32, stop: u32, word: u32) -> bool
+    requires { ⌜ order ≤ highestOrder ⌝ }
+    ensures { λ r. ⌜ Test (soundCheck order stop word ≡ accepted) r ⌝ }
+{
+    let corner = tile::corner(word);
+    let area = tile::area(tile::size(word));
+    if tile::area(order) < corner + area {
+        return false;
+    }
+    let over = corner % area;
+    if over != 0 {
+        return false;
+    }
+    let account = tile::account(word);
+    if account == 0 {
+        return false;
+    }
+    stop <= corner
+}
+
+// The first of checks 11 to 15 that the word breaks, where it breaks one of them, wherever the tile ahead of it ends.
+// Sizes are compared by area, which `plain` has computed too, so that the compiler computes it once.
+fn broken(order: u32, word: u32) -> u32
+    requires { ⌜ order ≤ highestOrder ⌝ }
+    ensures { λ r. ⌜ ((lo : ℕ) → (soundCheck order lo word ≡ accepted → ⊥) → r ≡ soundCheck order lo word) ⌝ }
+{
+    if tile::WORD_LIMIT <= word {
+        return refusal::HIGH_BITS_SET;
+    }
+    let area = tile::area(tile::size(word));
+    let limit = tile::area(order);
+    if limit < area {
+        return refusal::SIZE_ABOVE_ORDER;
+    }
+    let corner = tile::corner(word);
+    if limit <= corner {
+        return refusal::CORNER_INVALID;
+    }
+    if corner % area != 0 {
+        return refusal::CORNER_INVALID;
+    }
+    if tile::account(word) == 0 {
+        return refusal::ACCOUNT_ZERO;
+    }
+    refusal::TILES_OVERLAP
 }
 
 // The first of checks 11 to 15 that the word breaks, where the tile ahead of it ends at `stop`.
@@ -44,55 +99,34 @@ fn sound(order: u32, stop: u32, word: u32) -> u32
     requires { ⌜ order ≤ highestOrder ⌝ }
     ensures { λ r. ⌜ r ≡ soundCheck order stop word ⌝ }
 {
-    if tile::WORD_LIMIT <= word {
-        return refusal::HIGH_BITS_SET;
+    if plain(order, stop, word) {
+        return refusal::ACCEPTED;
     }
-    let size = tile::size(word);
-    if order < size {
-        return refusal::SIZE_ABOVE_ORDER;
-    }
-    let corner = tile::corner(word);
-    if tile::area(order) <= corner {
-        return refusal::CORNER_INVALID;
-    }
-    if corner % tile::area(size) != 0 {
-        return refusal::CORNER_INVALID;
-    }
-    if tile::account(word) == 0 {
-        return refusal::ACCOUNT_ZERO;
-    }
-    if corner < stop {
-        return refusal::TILES_OVERLAP;
-    }
-    refusal::ACCEPTED
+    broken(order, word)
 }
 
-// How many siblings in a row end with a tile, 4 for the last of four.
-fn siblings_with(ahead: Ahead, corner: u32, size: u32, account: u8) -> u32
-    requires { ⌜ (size ≤ highestOrder) × (ahead .siblings ≤ 3) ⌝ }
-    ensures { λ r. ⌜ r ≡ siblingsWith ahead (tile corner size account) ⌝ }
+// Whether a sound word is the last of four siblings, of which the three words ahead are the others: they differ in
+// nothing but the corner, and there by less than their block.
+fn last_of_four(ahead: Ahead, word: u32) -> bool
+    ensures { λ r. ⌜ ((n : ℕ) (seen : List Tile) → Knows ahead seen → Sound n (ended seen) (tileOf word) →
+        r ≡ lastOfFour seen (tileOf word)) ⌝ }
 {
-    if corner % tile::area(size + 1) == 0 {
-        return 1;
+    let first = ahead.first;
+    let second = ahead.second;
+    let third = ahead.third;
+    let apart = (first ^ second) | (first ^ third) | (first ^ word);
+    if tile::account(apart) != 0 {
+        return false;
     }
-    if ahead.siblings == 0 {
-        return 0;
+    if tile::size(apart) != 0 {
+        return false;
     }
-    if corner != ahead.stop {
-        return 0;
-    }
-    if size != ahead.size {
-        return 0;
-    }
-    if account != ahead.account {
-        return 0;
-    }
-    ahead.siblings + 1
+    tile::corner(apart) / 4 < tile::area(tile::size(word))
 }
 
 // The word behind the tiles that `ahead` tells of: one step of the pass, also for a reader that has no list yet.
 pub fn step(order: u32, ahead: Ahead, word: u32) -> Judged
-    requires { ⌜ (order ≤ highestOrder) × (ahead .siblings ≤ 3) ⌝ }
+    requires { ⌜ order ≤ highestOrder ⌝ }
     ensures { λ r. ⌜ ((seen : List Tile) → Knows ahead seen → Judges order seen word r) ⌝ }
 {
     let stop = ahead.stop;
@@ -100,35 +134,33 @@ pub fn step(order: u32, ahead: Ahead, word: u32) -> Judged
     if refusal != refusal::ACCEPTED {
         return Judged { refusal, ahead };
     }
-    let corner = tile::corner(word);
-    let size = tile::size(word);
-    let account = tile::account(word);
-    let siblings = siblings_with(ahead, corner, size, account);
-    if siblings == 4 {
+    if last_of_four(ahead, word) {
         return Judged {
             refusal: refusal::SIBLINGS_UNMERGED,
             ahead,
         };
     }
+    let second = ahead.second;
+    let third = ahead.third;
     Judged {
         refusal: refusal::ACCEPTED,
         ahead: Ahead {
-            stop: corner + tile::area(size),
-            size,
-            account,
-            siblings,
+            stop: tile::stop(word),
+            first: second,
+            second: third,
+            third: word,
         },
     }
 }
 
-// The words of a list in turn.
-fn exact(order: u32, tiles: usize, slots: &[u32]) -> u32
-    requires { ⌜ (order ≤ highestOrder) × (tiles ≤ length (now slots)) ⌝ }
-    ensures { λ r. ⌜ r ≡ wordsCheck order [] (take tiles (now (slots .entry))) ⌝ }
+// The words from `from` up to `to` in turn, behind the tiles that `begin` tells of.
+fn exact(order: u32, begin: Ahead, from: usize, to: usize, slots: &[u32]) -> u32
+    requires { ⌜ (order ≤ highestOrder) × (from ≤ to) × (to ≤ length (now slots)) ⌝ }
+    ensures { λ r. ⌜ ((x : ℕ) → Going order (take to (now (slots .entry))) x from begin → r ≡ x) ⌝ }
 {
-    let mut ahead = start();
-    let mut i = 0;
-    while i < tiles {
+    let mut ahead = begin;
+    let mut i = from;
+    while i < to {
         let judged = step(order, ahead, slots[i]);
         let refusal = judged.refusal;
         if refusal != refusal::ACCEPTED {
@@ -140,56 +172,92 @@ fn exact(order: u32, tiles: usize, slots: &[u32]) -> u32
     refusal::ACCEPTED
 }
 
-// The words of a list that is not short: once the first word is sound, the flat pass may take all words at once; where
-// it does not, they go in turn, so that the first bad one is found.
-fn words(order: u32, tiles: usize, slots: &[u32]) -> u32
-    requires { ⌜ (order ≤ highestOrder) × (3 ≤ tiles) × (tiles ≤ length (now slots)) ⌝ }
-    ensures { λ r. ⌜ r ≡ wordsCheck order [] (take tiles (now (slots .entry))) ⌝ }
+// What is ahead of the word at i: the three words in front of it.
+fn ahead_of(i: usize, slots: &[u32]) -> Ahead
+    requires { ⌜ (3 ≤ i) × (i ≤ length (now slots)) ⌝ }
+    ensures { λ r. ⌜ ((n : ℕ) → FrontPasses n (now (slots .entry)) i → Knows r (seenAt (now (slots .entry)) i)) ⌝ }
 {
-    let refusal = sound(order, 0, slots[0]);
-    if refusal != refusal::ACCEPTED {
-        return refusal;
+    let third = slots[i - 1];
+    Ahead {
+        stop: tile::stop(third),
+        first: slots[i - 3],
+        second: slots[i - 2],
+        third,
     }
-    if list_flat::flat(order, tiles, slots) {
-        return refusal::ACCEPTED;
-    }
-    exact(order, tiles, slots)
 }
 
-// Checks 1 and 2.
-fn counted(order: u32, tiles: usize, lent: usize) -> u32
-    ensures { λ r. ⌜ r ≡ countCheck order tiles lent ⌝ }
+// How many words of a list pass, as far as the flat pass tells, where the head does.
+fn flat_upto(order: u32, words: &[u32]) -> usize
+    requires { ⌜ (order ≤ highestOrder) × (head ≤ length (now words)) × FrontPasses order (now words) head ⌝ }
+    ensures { λ r. ⌜ (head ≤ r) × (r ≤ length (now (words .entry))) × FrontPasses order (now (words .entry)) r ⌝ }
 {
-    if tile::HIGHEST_ORDER < order {
+    let tiles = words.len();
+    if tiles < FEW {
+        return HEAD;
+    }
+    let clear = list_flat::flat(
+        order,
+        HEAD - list_flat::BEHIND,
+        tiles - list_flat::BEHIND,
+        words,
+    );
+    if clear < HEAD {
+        return HEAD;
+    }
+    clear
+}
+
+// How many of a list's words are in its head.
+fn head_of(tiles: usize) -> usize
+    ensures { λ r. ⌜ (r ≤ tiles) × (tiles ≤ head → r ≡ tiles) × (head ≤ tiles → r ≡ head) ⌝ }
+{
+    if tiles < HEAD {
+        return tiles;
+    }
+    HEAD
+}
+
+// Checks 1 and 2, and those of the head: small enough to become part of its callers, so that short lists, and long ones
+// that are refused near the front, are spared a call.
+pub fn check_head(order: u32, tiles: usize, slots: &[u32]) -> u32
+    ensures { λ r. ⌜ Begun order tiles (now (slots .entry)) r ⌝ }
+{
+    let highest = tile::HIGHEST_ORDER;
+    if highest < order {
         return refusal::ORDER_TOO_LARGE;
     }
-    if lent < tiles {
+    if slots.len() < tiles {
         return refusal::COUNT_ABOVE_SLOTS;
     }
-    refusal::ACCEPTED
+    exact(order, start(), 0, head_of(tiles), slots)
 }
 
-// The check of a list word by word, as it suits short ones: small enough to become part of its callers.
-pub fn check_short(order: u32, tiles: usize, slots: &[u32]) -> u32
-    ensures { λ r. ⌜ r ≡ listCheck order tiles (now (slots .entry)) ⌝ }
+// The checks of the head of a list, unless `known` says that all its words pass.
+fn head_number(order: u32, known: usize, words: &[u32]) -> u32
+    requires { ⌜ (order ≤ highestOrder) × (known ≤ length (now words)) × FrontPasses order (now words) known ⌝ }
+    ensures { λ r. ⌜ Begun order (length (now (words .entry))) (now (words .entry)) r ⌝ }
 {
-    let number = counted(order, tiles, slots.len());
+    if HEAD <= known {
+        return refusal::ACCEPTED;
+    }
+    check_head(order, words.len(), words)
+}
+
+// The words of a list, of which the first `known` pass: all of the head, or none is known. It is handed no slots behind
+// them, for the sake of speed: docs/DECISIONS.md, A19.
+pub fn check_words(order: u32, known: usize, words: &[u32]) -> u32
+    requires { ⌜ (order ≤ highestOrder) × (known ≤ length (now words)) × FrontPasses order (now words) known ⌝ }
+    ensures { λ r. ⌜ r ≡ wordsCheck order [] (now (words .entry)) ⌝ }
+{
+    let number = head_number(order, known, words);
     if number != refusal::ACCEPTED {
         return number;
     }
-    exact(order, tiles, slots)
-}
-
-// The check of any other list.
-fn check_long(order: u32, tiles: usize, slots: &[u32]) -> u32
-    requires { ⌜ 3 ≤ tiles ⌝ }
-    ensures { λ r. ⌜ r ≡ listCheck order tiles (now (slots .entry)) ⌝ }
-{
-    let number = counted(order, tiles, slots.len());
-    if number != refusal::ACCEPTED {
-        return number;
+    if words.len() <= HEAD {
+        return refusal::ACCEPTED;
     }
-    words(order, tiles, slots)
+    let i = flat_upto(order, words);
+    exact(order, ahead_of(i, words), i, words.len(), words)
 }
 
 // The offered call: checks a list of an order, its tile count and its slots, and answers the first refusal, or that it
@@ -197,8 +265,12 @@ fn check_long(order: u32, tiles: usize, slots: &[u32]) -> u32
 pub fn check(order: u32, tiles: usize, slots: &[u32]) -> u32
     ensures { λ r. ⌜ r ≡ listCheck order tiles (now (slots .entry)) ⌝ }
 {
-    if tiles < SHORT {
-        return check_short(order, tiles, slots);
+    if tile::HIGHEST_ORDER < order {
+        return refusal::ORDER_TOO_LARGE;
     }
-    check_long(order, tiles, slots)
+    let lent = slots.len();
+    if lent < tiles {
+        return refusal::COUNT_ABOVE_SLOTS;
+    }
+    check_words(order, 0, &slots[..tiles])
 }

@@ -1,9 +1,10 @@
--- The words of a stretch, turn by turn.
+-- The words of a stretch, and the stretches, turn by turn.
 --     Stretch from slots bad all i   unless a fault was found, the words from `from` up to i are clear, and none starts
 --                                    past where `all` does
 --     stretch-start                  no word is looked at yet
 --     stretch-on                     one word more
 --     stretch-clear                  no fault, and `all` starts on the bed: then all of them do
+--     Looked n from i                the words from `from` up to i are clear and start on the bed; looked-start, looked-on
 use mathlib.Core.Path.{_≡_}
 use mathlib.Core.Bool.{Bool, false, _||_}
 use mathlib.Core.List.{List}
@@ -18,7 +19,7 @@ use Rattle.tile.proofs.WordBits.{corner-or-left, corner-or-right}
 use Rattle.list_flat.specs.Clear.{Clear, ClearAt}
 
 module _ (slots : List ℕ) where
-  abbrev pub ClearFrom : ℕ → Type 0
+  abbrev ClearFrom : ℕ → Type 0
   ClearFrom j = Clear (tileOf (getD slots j 0)) (tileOf (getD slots (j + 1) 0)) (tileOf (getD slots (j + 2) 0)) (tileOf (getD slots (j + 3) 0))
 
   pub record Stretch (from : ℕ) (bad : Bool) (all i : ℕ) : Type 0 where
@@ -42,3 +43,12 @@ module _ (slots : List ℕ) where
 
     pub stretch-clear : (n : ℕ) → bad ≡ false → tileOf all .corner < 4 ^ n → (j : ℕ) → from ≤ j → j < i → ClearAt n slots j
     stretch-clear n e l j h g = record { inside = omega (arith, s .joined j h g); clear = s .clear e j h g }
+
+  pub record Looked (n from i : ℕ) : Type 0 where
+    pub clear : (j : ℕ) → from ≤ j → j < i → ClearAt n slots j
+
+  pub looked-start : (n from : ℕ) → Looked n from from
+  looked-start n from = record { clear = λ j h l. absurd (omega arith) }
+
+  pub looked-on : {n from i next : ℕ} → Looked n from i → ((j : ℕ) → i ≤ j → j < next → ClearAt n slots j) → Looked n from next
+  looked-on {i = i} f g = record { clear = λ j h l. elim (decLt j i) [ yes p ↦ f .clear j h p | no p ↦ g j (omega arith) l ] }

@@ -1,17 +1,16 @@
-// List checking without a branch in the loop: whether a list is plainly valid. It never takes a list that is not, and
-// does not tell why it takes none: that is list_check's, word by word.
+// List checking without a branch in the loop: how far the words of a list are clear. It does not tell what is wrong with
+// one that is not: that is list_check's, word by word.
 ghost use mathlib.Core.Path.{_≡_};
-ghost use mathlib.Core.Bool.{true, false};
-ghost use Prim.Native.Nat.{ℕ, _+_, _^_, _<_, _≤_};
+ghost use mathlib.Core.Bool.{false};
+ghost use Prim.Native.Nat.{ℕ, _+_, _<_, _≤_};
 ghost use lib.ListN.{length};
 ghost use Rattle.tile.specs.Tile.{tileOf, highestOrder};
-ghost use Rattle.tile.specs.Slots.{tilesIn};
-ghost use Rattle.quadtree.specs.Valid.{Valid};
-ghost use Rattle.list_flat.specs.Clear.{Clear, Tail, ClearAt};
+ghost use Rattle.list_flat.specs.Clear.{Clear, ClearAt};
 
-// How many words are looked at, at first and at most, before a fault among them ends the search.
-const SHORTEST: usize = 32;
+// How many words behind a word are looked at with it.
+pub const BEHIND: usize = 3;
 
+// How many words are looked at, at most, before a fault among them ends the search.
 const LONGEST: usize = 256;
 
 // Whether the tile of x is not aligned or nobody's, the tile of y starts before it ends, or the four words are
@@ -47,27 +46,18 @@ fn faults(order: u32, from: usize, to: usize, slots: &[u32]) -> bool
     bad | (tile::area(order) <= tile::corner(all))
 }
 
-// The same of the last three words, behind which a word stands that starts past every bed and is nobody's.
-fn end_faults(order: u32, x: u32, y: u32, z: u32) -> bool
-    requires { ⌜ order ≤ highestOrder ⌝ }
-    ensures { λ r. ⌜ (r ≡ false → Tail order (tileOf x) (tileOf y) (tileOf z)) ⌝ }
-{
-    let past = tile::WORD_LIMIT;
-    let out = tile::area(order) <= tile::corner(x | y | z);
-    out | fault(x, y, z, past) | fault(y, z, past, past) | fault(z, past, past, past)
-}
-
-// How many words the stretch has that starts at i.
+// How many words the stretch has that starts at i: as many as were looked at up to there. So stretches double, and a
+// fault near the front is soon found.
 fn stretch(i: usize) -> usize
     ensures { λ r. ⌜ 0 < r ⌝ }
 {
-    if i < LONGEST - SHORTEST {
-        return i + SHORTEST;
+    if i < LONGEST - BEHIND {
+        return i + BEHIND;
     }
     LONGEST
 }
 
-// Where the stretch ends that starts at i: stretches grow, so that a fault near the front is soon found.
+// Where the stretch ends that starts at i.
 fn stretch_end(i: usize, end: usize) -> usize
     requires { ⌜ i < end ⌝ }
     ensures { λ r. ⌜ (i < r) × (r ≤ end) ⌝ }
@@ -79,26 +69,19 @@ fn stretch_end(i: usize, end: usize) -> usize
     i + length
 }
 
-// Whether a list of three tiles or more is plainly valid. Of the sizes only the first is compared with the order: a
-// later corner is not 0, is a multiple of its tile's area and is on the bed.
-pub fn flat(order: u32, tiles: usize, slots: &[u32]) -> bool
-    requires { ⌜ (order ≤ highestOrder) × (3 ≤ tiles) × (tiles ≤ length (now slots)) ⌝ }
-    ensures { λ r. ⌜ (r ≡ true → Valid order (tilesIn tiles (now (slots .entry)))) ⌝ }
+// Where the first stretch starts, from `from` on, in which there is a fault, or the end.
+pub fn flat(order: u32, from: usize, end: usize, slots: &[u32]) -> usize
+    requires { ⌜ (order ≤ highestOrder) × (from ≤ end) × (end + 3 ≤ length (now slots)) ⌝ }
+    ensures { λ r. ⌜ (from ≤ r) × (r ≤ end)
+        × ((j : ℕ) → from ≤ j → j < r → ClearAt order (now (slots .entry)) j) ⌝ }
 {
-    if order < tile::size(slots[0]) {
-        return false;
-    }
-    let end = tiles - 3;
-    if end_faults(order, slots[end], slots[end + 1], slots[end + 2]) {
-        return false;
-    }
-    let mut i = 0;
+    let mut i = from;
     while i < end {
         let next = stretch_end(i, end);
         if faults(order, i, next, slots) {
-            return false;
+            return i;
         }
         i = next;
     }
-    true
+    i
 }

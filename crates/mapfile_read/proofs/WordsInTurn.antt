@@ -2,7 +2,7 @@
 --     Going n t bs i p a s   `a` tells of the tiles of the first i words, all of which passed and which have s pixels; the words from i on, which stand at p, decide
 --     going-start            it begins at the first word
 --     going-short            where the bytes end before a word, that decides
---     going-on               a word that passes takes it on; going-size, its tile's size, and going-fits, the pixels with its tile's fit
+--     going-on               a word that passes takes it on; going-fits, the pixels with its tile's fit
 --     going-stop             a word that does not decides
 --     going-end, going-all   behind the last word nothing is left to refuse, and the pixels are those of all tiles
 use mathlib.Core.Path.{_≡_, ap, sym, _∙_}
@@ -20,7 +20,7 @@ use Rattle.quadtree.specs.Valid.{Sound}
 use Rattle.list_check.specs.declared.Ahead.{Ahead}
 use Rattle.list_check.specs.declared.Judged.{Judged}
 use Rattle.list_check.specs.ListCheck.{ended, wordCheck}
-use Rattle.list_check.specs.Pass.{aheadOf, Knows, Judges}
+use Rattle.list_check.specs.Pass.{Knows, Judges}
 use Rattle.list_check.proofs.OneWord.{sound-passed, stop-fits, wordCheck-rest}
 use Rattle.mapfile_bytes.specs.Items.{wordAt, wordsAt}
 use Rattle.mapfile_entries.specs.Pixels.{areaOf}
@@ -74,14 +74,9 @@ module _ (n t : ℕ) (bs : List ℕ) where
         pub going-stop : (r .refusal ≡ accepted → ⊥) → r .refusal ≡ tilesCheck n t [] bs 5
         going-stop z = j .refusal ∙ sym (word ∙ else-off _ _ (λ y. z (j .refusal ∙ y)))
 
-        module _ (z : r .refusal ≡ accepted) where
-          pub going-size : r .ahead .size ≡ tileOf w .size
-          unfolding aheadOf
-          going-size = ap (λ (b : Ahead). b .size) (j .ahead z .is)
-
-        module _ (z : r .refusal ≡ accepted) (x : ℕ) (ex : x ≡ 4 ^ r .ahead .size) where
+        module _ (z : r .refusal ≡ accepted) (k x : ℕ) (ek : k ≡ tileOf w .size) (ex : x ≡ 4 ^ k) where
           pixels : x ≡ 4 ^ tileOf w .size
-          pixels = ex ∙ ap (λ (k : ℕ). 4 ^ k) (going-size z)
+          pixels = ex ∙ ap (λ (k : ℕ). 4 ^ k) ek
 
           pub going-fits : n ≤ highestOrder → s + x < 2 ^ 32
           going-fits o =

@@ -43,14 +43,14 @@ fn words(order: u32, tiles: usize, file: &[u8]) -> Tiled
                 area: 0,
             };
         }
-        let judged = list_check::step(order, ahead, mapfile_bytes::word_at(file, p));
+        let word = mapfile_bytes::word_at(file, p);
+        let judged = list_check::step(order, ahead, word);
         let refusal = judged.refusal;
         if refusal != refusal::ACCEPTED {
             return Tiled { refusal, area: 0 };
         }
         ahead = judged.ahead;
-        let size = ahead.size;
-        area += tile::area(size);
+        area += tile::area(tile::size(word));
         i += 1;
         p += mapfile_bytes::WORD_LENGTH;
     }

@@ -1,6 +1,8 @@
 -- Four siblings in a row. `Valid` says by membership that no four siblings are in a list; proofs by recursion want them next to each other.
 --     Follows t u             u starts where t ends, and has its size and account
 --     Siblings t u v w        the four quadrants of one block, in their order, of one account
+--     same-tile               two tiles of one corner, size and account are the same
+--     siblings-quarters       siblings are the quarters of a block
 --     Four t ts, NoFour ts    t and the first three of ts are siblings; no four tiles in a row are
 --     no-four-left, -right    no four in a row of two lists joined: then of neither
 --     merged-no-four          a merged list has no four in a row
@@ -73,8 +75,26 @@ quarters k a p m =
     move e = ap (λ (c : ℕ). tile c k a) e
 
 -- two tiles of one size and account are the same if their corners are
-same-tile : {t u : Tile} → u .corner ≡ t .corner → u .size ≡ t .size → u .account ≡ t .account → u ≡ t
+pub same-tile : {t u : Tile} → u .corner ≡ t .corner → u .size ≡ t .size → u .account ≡ t .account → u ≡ t
 same-tile p q r = λ i. record { corner = p i; size = q i; account = r i }
+
+pub record Quarters (t u v w : Tile) : Type 0 where
+  pub first : t ≡ quarter (t .size) (t .account) (t .corner) 0
+  pub second : u ≡ quarter (t .size) (t .account) (t .corner) 1
+  pub third : v ≡ quarter (t .size) (t .account) (t .corner) 2
+  pub fourth : w ≡ quarter (t .size) (t .account) (t .corner) 3
+
+pub siblings-quarters : {t u v w : Tile} → Siblings t u v w → Quarters t u v w
+siblings-quarters b =
+    let e = followed (b .second) in
+    let f = followed (b .third) in
+    let g = followed (b .fourth) in
+    record {
+      first = same-tile (omega arith) refl refl;
+      second = same-tile (omega arith) (omega arith) (omega arith);
+      third = same-tile (omega arith) (omega arith) (omega arith);
+      fourth = same-tile (omega arith) (omega arith) (omega arith);
+    }
 
 sibling-quarter : {t u v w : Tile} → Siblings t u v w → (ts : List Tile) (i : ℕ) → i < 4 → quarter (t .size) (t .account) (t .corner) i ∈ (t ∷ u ∷ v ∷ w ∷ ts)
 sibling-quarter {t} b ts zero h = List·Memᴰ·head {x = t} (same-tile (omega arith) refl refl)

@@ -84,14 +84,18 @@ fn covers_unscanned(scan: bed::Scan, slots: &[u32]) -> bool
     }
 }
 
-// The list's checks: a short list is checked in place, since a call would cost more.
+// The list's checks, the first words' in place: a call would cost more.
 fn list_number(order: u32, tiles: usize, slots: &[u32]) -> u32
     ensures { λ r. ⌜ r ≡ listCheck order tiles (now (slots .entry)) ⌝ }
 {
-    if tiles < list_check::SHORT {
-        return list_check::check_short(order, tiles, slots);
+    let number = list_check::check_head(order, tiles, slots);
+    if number != refusal::ACCEPTED {
+        return number;
     }
-    list_check::check(order, tiles, slots)
+    if tiles <= list_check::HEAD {
+        return refusal::ACCEPTED;
+    }
+    list_check::check_words(order, list_check::HEAD, &slots[..tiles])
 }
 
 // The opening checks: 1, 2 and 11 to 16 of the list, then 21 and 22 of the record. Once all pixels are scanned, no list

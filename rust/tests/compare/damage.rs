@@ -78,15 +78,43 @@ pub fn pair_case(random: &mut Random, count: &mut Count) {
     }
 }
 
-/// One kind of damage to a list.
+/// A list of some hundred tiles and the lists of its first 1 to 24, each with each kind of damage at each place.
+pub fn every_word(random: &mut Random, count: &mut Count) {
+    const ORDER: u32 = 6;
+    let words = loop {
+        let accounts = palette(random);
+        let words = Built::random(random, ORDER, &accounts, 7).words;
+        if (600..1200).contains(&words.len()) {
+            break words;
+        }
+    };
+    for length in (1..=24).chain([words.len()]) {
+        for at in 0..length {
+            for kind in 0..KINDS {
+                let mut bad = words[..length].to_vec();
+                at_word(random, &mut bad, ORDER, at, kind);
+                count.check((ORDER, bad.len(), &bad));
+            }
+        }
+    }
+}
+
+/// Damage of some kind to a list.
 pub fn list(random: &mut Random, words: &mut Vec<u32>, order: u32) {
     if words.is_empty() {
         words.push(random.next() as u32 >> random.below(32));
         return;
     }
-    let at = random.below(words.len());
+    let (at, kind) = (random.below(words.len()), random.below(KINDS));
+    at_word(random, words, order, at, kind);
+}
+
+const KINDS: usize = 11;
+
+/// One kind of damage to a list at a place.
+fn at_word(random: &mut Random, words: &mut Vec<u32>, order: u32, at: usize, kind: usize) {
     let other = random.below(words.len());
-    match random.below(11) {
+    match kind {
         0 => words[at] ^= 1 << random.below(32),
         1 => words.swap(at, other),
         2 => words.truncate(at),

@@ -43,7 +43,7 @@ struct Group {
 }
 
 /// Once, first.
-const ONCE: [Group; 8] = [
+const ONCE: [Group; 9] = [
     Group { name: "worked", case: |_, count| worked::lines(count), round: 1 },
     Group { name: "checks", case: |_, count| checks::in_order(count), round: 1 },
     Group { name: "limits", case: |_, count| limits::all(count), round: 1 },
@@ -51,6 +51,7 @@ const ONCE: [Group; 8] = [
     Group { name: "every-point", case: |_, count| points::all(count), round: 1 },
     Group { name: "every-position", case: |_, count| mils::all(count), round: 1 },
     Group { name: "every-feed", case: bands::all, round: 1 },
+    Group { name: "every-word", case: damage::every_word, round: 1 },
     Group { name: "patterns", case: large::patterns, round: 1 },
 ];
 

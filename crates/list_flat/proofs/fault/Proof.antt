@@ -9,7 +9,7 @@ use Rattle.tile.specs.Tile.{Tile}
 use Rattle.tile.proofs.TileLaws.{tileOf-size}
 use Rattle.tile.proofs.Bits.{stop-fits}
 use Rattle.quadtree.proofs.Alignment.{area-pos}
-use Rattle.list_flat.proofs.FaultLaws.{area-is, remainder-aligned, quarters-within, third-fails}
+use Rattle.list_flat.proofs.FaultLaws.{area-of, remainder-aligned, quarters-within, third-fails}
 use Rattle.list_flat.proofs.fault.Statement.{statement}
 use Rattle.list_flat.proofs.fault.Tie as tie
 
@@ -19,7 +19,7 @@ returns c = λ e.
     let one = neither _ _ e in
     let two = neither _ _ (one .0) in
     let three = neither _ _ (two .0) in
-    let area = area-is (a .x) _ _ _ (c .before .before .before .before .before .before .before .corner .ensures) (c .before .before .before .before .before .before .size .ensures) (c .before .before .before .before .before .area .ensures) in
+    let area = area-of (a .x) (c .before .before .before .before .before .before .size .ensures) (c .before .before .before .before .before .area .ensures) in
     record {
       aligned = remainder-aligned (a .x) _ _ _ (c .before .before .before .before .before .before .before .corner .ensures) (c .before .before .before .before .before .before .size .ensures) (c .before .before .before .before .before .area .ensures) (eqb-true _ _ (not-false _ (three .0)));
       owned = omega (arith, eqb-false (c .before .account2 .result) 0 (three .1), c .before .account2 .ensures);

@@ -1,5 +1,5 @@
 -- The loop keeps `Going`: what is ahead is known, with its pixels, and the words from i on decide.
-use Rattle.mapfile_read.proofs.WordsInTurn.{Going, going-start, going-end, going-all, going-short, going-on, going-size, going-fits, going-stop}
+use Rattle.mapfile_read.proofs.WordsInTurn.{Going, going-start, going-end, going-all, going-short, going-on, going-fits, going-stop}
 use Prim.Native.Nat.{_-_, _≤_}
 use native.Mathlib.Omega.{arith}
 use Rattle.tile.proofs.TileLaws.{tileOf-size}
@@ -29,39 +29,28 @@ returns-2 c =
 
 loop-again : tie.Need-loop-again Inv-loop μ-loop
 loop-again c =
-    let g = c .before .before .before .before .before .before .before .loop .inv .2 in
-    let judged = c .before .before .before .step .ensures (g .seen) (g .knows) in
-    let word-at = c .before .before .before .before .word-at in
-    let if2 = c .before .before .if2 in
-    (search needs, search needs, going-on _ _ _ _ _ _ g (omega arith) (omega arith) _ (word-at .ensures) judged (if2 .left) _ (c .area .ensures))
+    let g = c .before .before .before .before .before .before .before .before .loop .inv .2 in
+    let judged = c .before .before .before .before .step .ensures (g .seen) (g .knows) in
+    let word-at = c .before .before .before .before .before .word-at in
+    (search needs, search needs, going-on _ _ _ _ _ _ g (omega arith) (omega arith) _ (word-at .ensures) judged (c .before .before .before .if2 .left) _ _ (c .before .size .ensures) (c .area .ensures))
 
 returns-3 : tie.Need-returns-3 Inv-loop μ-loop
 returns-3 c =
     let l = c .before .loop in
     (going-end _ _ _ (l .i) (l .p) _ (l .inv .2) (omega arith), λ e. going-all _ _ _ (l .i) (l .p) _ (l .inv .2) (omega arith))
 
-step-requires : tie.Need-step-requires Inv-loop μ-loop
-step-requires c κs = omega (arith, c .before .before .before .loop .inv .2 .knows .few)
-
 area-requires : tie.Need-area-requires Inv-loop μ-loop
-area-requires c κs =
-    let g = c .before .before .before .before .before .before .loop .inv .2 in
-    let judged = c .before .before .step .ensures (g .seen) (g .knows) in
-    let word-at = c .before .before .before .word-at in
-    let size = going-size _ _ _ _ _ _ g (omega arith) (omega arith) _ (word-at .ensures) judged (c .before .if2 .left) in
-    omega (arith, size, tileOf-size (word-at .result))
+area-requires c κs = omega (arith, c .size .ensures, tileOf-size (c .before .before .before .before .word-at .result))
 
 add-area : tie.Need-add-area Inv-loop μ-loop
 add-area c =
-    let g = c .before .before .before .before .before .before .before .loop .inv .2 in
-    let judged = c .before .before .before .step .ensures (g .seen) (g .knows) in
-    let word-at = c .before .before .before .before .word-at in
-    let if2 = c .before .before .if2 in
-    let p = c .before .before .before .before .before .before .before .before .before .before .pre in
-    omega (arith, going-fits _ _ _ _ _ _ g (omega arith) (omega arith) _ (word-at .ensures) judged (if2 .left) _ (c .area .ensures) (p .0))
+    let g = c .before .before .before .before .before .before .before .before .loop .inv .2 in
+    let judged = c .before .before .before .before .step .ensures (g .seen) (g .knows) in
+    let word-at = c .before .before .before .before .before .word-at in
+    omega (arith, going-fits _ _ _ _ _ _ g (omega arith) (omega arith) _ (word-at .ensures) judged (c .before .before .before .if2 .left) _ _ (c .before .size .ensures) (c .area .ensures) (c .before .before .before .before .before .before .before .before .before .before .before .pre .0))
 
 pub words-spec : {M : Type 1} → statement M
 words-spec =
     tie.close
-    (tie.spec Inv-loop μ-loop (λ c κs. search needs) loop-holds (λ c. search needs) returns (λ c κs. search needs) step-requires returns-2 area-requires
+    (tie.spec Inv-loop μ-loop (λ c κs. search needs) loop-holds (λ c. search needs) returns (λ c κs. search needs) (λ c κs. search needs) returns-2 (λ c κs. search needs) area-requires
     add-area (λ c. search needs) (λ c. search needs) (λ c. search needs) loop-again returns-3)
