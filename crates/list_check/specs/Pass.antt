@@ -1,10 +1,10 @@
 -- Inner: what one pass over the words keeps of the tiles that it has seen, and how far a list is known to pass.
 -- Definitions only. Tiles seen are given last first.
 --     Rises seen               no tile seen starts before the one ahead of it ends
---     Knows a seen             `a` tells of the tiles seen, which rise: where the last one ends, and the words of the last
---                              three, which are 0 where there are fewer
---     Judges n seen w r        what a step has to say of the word w behind the tiles seen: its refusal, or what is ahead
---                              of the next word
+--     Knows a seen             `a` tells of the tiles seen, which rise: where the last one ends, and the words of the
+--                              last three, which are 0 where there are fewer
+--     Judges n seen w r        what a step has to say of the word w behind the tiles seen: its refusal, or what is
+--                              ahead of the next word
 --     Going n ws x i a         x is what the words from i on come to, behind tiles of which `a` tells
 --     seenAt slots i           the tiles of the first i slots
 --     FrontPasses n slots i    the first i words break no check

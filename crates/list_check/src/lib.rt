@@ -1,6 +1,6 @@
-// List checking word by word, which keeps where the last tile ends and the words of the last three. A list's first words
-// are checked so; list_flat, which is faster and does not say what is wrong, then tells how far the words are clear, and
-// those behind are checked word by word again.
+// List checking word by word, which keeps where the last tile ends and the words of the last three. A list's first
+// words are checked so; list_flat, which is faster and does not say what is wrong, then tells how far the words are
+// clear, and those behind are checked word by word again.
 ghost use mathlib.Core.Path.{_≡_};
 ghost use mathlib.Core.List.{List, []};
 ghost use Prim.Native.Nat.{ℕ, _≤_};
@@ -12,7 +12,8 @@ ghost use Rattle.quadtree.specs.Valid.{Sound};
 ghost use Rattle.list_check.specs.ListCheck.{lastOfFour, ended, soundCheck, wordsCheck, listCheck};
 ghost use Rattle.list_check.specs.Pass.{Knows, Judges, Going, seenAt, FrontPasses, head, Begun};
 
-// How many words are in a list's head, which is checked in place. The compiler unrolls a loop of so many, and of no more.
+// How many words are in a list's head, which is checked in place. The compiler unrolls a loop of so many, and of no
+// more.
 pub const HEAD: usize = 8;
 
 // A list of fewer tiles gains nothing by the flat pass.
@@ -45,8 +46,8 @@ pub fn start() -> Ahead
     }
 }
 
-// Whether the word breaks none of checks 11 to 15, where the tile ahead of it ends at `stop`. A tile that ends on the bed
-// is no larger than it and starts there, and a word with a high bit set has no such tile.
+// Whether the word breaks none of checks 11 to 15, where the tile ahead of it ends at `stop`. A tile that ends on the
+// bed is no larger than it and starts there, and a word with a high bit set has no such tile.
 fn plain(order: u32, stop: u32, word: u32) -> bool
     requires { ⌜ order ≤ highestOrder ⌝ }
     ensures { λ r. ⌜ Test (soundCheck order stop word ≡ accepted) r ⌝ }

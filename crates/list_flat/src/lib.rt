@@ -1,5 +1,5 @@
-// List checking without a branch in the loop: how far the words of a list are clear. It does not tell what is wrong with
-// one that is not: that is list_check's, word by word.
+// List checking without a branch in the loop: how far the words of a list are clear. It does not tell what is wrong
+// with one that is not: that is list_check's, word by word.
 ghost use mathlib.Core.Path.{_≡_};
 ghost use mathlib.Core.Bool.{false};
 ghost use Prim.Native.Nat.{ℕ, _+_, _<_, _≤_};
