@@ -109,9 +109,9 @@ void refused_lists(struct bench *b, uint32_t order)
             check_refused(b, places[i] - 1, 1);
             printf("|\n");
         }
-    for (size_t behind = 6; behind > 0; behind -= 2) {
-        printf("| %u | %zu ", order, b->tiles + 2 - behind);
-        check_refused(b, b->tiles + 1 - behind, 1);
+    for (size_t last = b->tiles - 4; last <= b->tiles; last += 2) {
+        printf("| %u | %zu ", order, last);
+        check_refused(b, last - 1, 1);
         printf("|\n");
     }
     fflush(stdout);

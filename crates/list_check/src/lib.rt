@@ -16,7 +16,7 @@ ghost use Rattle.list_check.specs.Pass.{Knows, Judges, Going, seenAt, Fr
 // more.
 pub const HEAD: usize = 8;
 
-// A list of fewer tiles gains nothing by the flat pass.
+// A list of fewer tiles is checked word by word to its end: the flat pass would gain little.
 const FEW: usize = 16;
 
 // What the pass keeps of the tiles ahead: where the last one ends, and the words of the last three, which are 0 where
@@ -244,8 +244,8 @@ fn head_number(order: u32, known: usize, words: &[u32]) -> u32
     check_head(order, words.len(), words)
 }
 
-// The words of a list, of which the first `known` pass: all of the head, or none is known. It is handed no slots behind
-// them, for the sake of speed: docs/DECISIONS.md, A19.
+// The words of a list, of which the first `known` are known to pass. Callers make the slice for it, which is faster
+// than to hand one on: docs/DECISIONS.md, A19.
 pub fn check_words(order: u32, known: usize, words: &[u32]) -> u32
     requires { ⌜ (order ≤ highestOrder) × (known ≤ length (now words)) × FrontPasses order (now words) known ⌝ }
     ensures { λ r. ⌜ r ≡ wordsCheck order [] (now (words .entry)) ⌝ }

@@ -78,7 +78,7 @@ pub fn pair_case(random: &mut Random, count: &mut Count) {
     }
 }
 
-/// A list of some hundred tiles and the lists of its first 1 to 24, each with each kind of damage at each place.
+/// A list of several hundred tiles and the lists of its first 1 to 24, each damaged in each way at each place.
 pub fn every_word(random: &mut Random, count: &mut Count) {
     const ORDER: u32 = 6;
     let words = loop {
