@@ -1,6 +1,7 @@
 -- The checks up to the end of a list's head, and the list's.
 --     list-order, -count, -words    checks 1 and 2 decide, or the words do; words-list, of words alone
 --     begun-order, -count, -words   so for a head; begun-known, where it is known to pass
+--     begun-ready                   behind a head that passes the words may be asked, and are the list's
 use mathlib.Core.Path.{_≡_, refl, ap, sym, _∙_}
 use mathlib.Core.List.{List, []}
 use Prim.Native.Nat.{ℕ, _≤_, _<_}
@@ -51,6 +52,9 @@ module _ (n t : ℕ) (slots : List ℕ) where
         front = λ y k. passes-front n t slots head k (rw (b .2 k) at (front-passes n h slots (omega (arith, b .0)) (sym e ∙ y)));
         rest = λ y. list-words;
       }
+
+pub begun-ready : {n t r : ℕ} {slots : List ℕ} → Begun n t slots r → r ≡ accepted → head ≤ t → (n ≤ highestOrder) × (head ≤ length (take t slots)) × FrontPasses n (take t slots) head
+begun-ready b e h = (b .order e, omega (arith, b .count e), b .front e h)
 
 module _ (n : ℕ) (ws : List ℕ) (o : n ≤ highestOrder) where
   pub words-list : wordsCheck n [] ws ≡ listCheck n (length ws) ws

@@ -1,6 +1,6 @@
 -- Inner: what the words of a list have at which no fault is found. Definitions only.
 --     Clear t u v w       t is aligned and somebody's, u does not start before it ends, and the four are not siblings
---     ClearAt n slots j   so the tiles of the slots from j on, of which the first starts on the bed
+--     ClearAt n slots j   so the four tiles of the slots j to j + 3, of which the first starts on the bed
 use mathlib.Core.Path.{_≡_}
 use mathlib.Core.List.{List}
 use Prim.Native.Nat.{ℕ, suc, _+_, _^_, _≤_, _<_}

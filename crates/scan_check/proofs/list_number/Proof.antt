@@ -2,6 +2,7 @@
 use mathlib.Core.Path.{_∙_, sym}
 use native.Mathlib.Omega.{arith}
 use borrow.Author.Needs.{needs}
+use Rattle.list_check.proofs.HeadLaws.{begun-ready}
 use Rattle.scan_check.proofs.list_number.Statement.{statement}
 use Rattle.scan_check.proofs.list_number.Tie as tie
 
@@ -18,10 +19,7 @@ slice-aggregate-check-words : tie.Need-slice-aggregate-check-words
 slice-aggregate-check-words c = sym (c .before .before .before .check-head .ensures .count (c .before .before .if1 .left))
 
 check-words-requires : tie.Need-check-words-requires
-check-words-requires c κs =
-    let begun = c .before .before .before .check-head .ensures in
-    let e = c .before .before .if1 .left in
-    (begun .order e, omega (arith, begun .count e), begun .front e (omega arith))
+check-words-requires c κs = begun-ready (c .before .before .before .check-head .ensures) (c .before .before .if1 .left) (omega arith)
 
 pub list-number-spec : {M : Type 1} → statement M
 list-number-spec = tie.close (tie.spec (λ c κs. search needs) returns returns-2 slice-aggregate-check-words check-words-requires returns-3)
