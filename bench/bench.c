@@ -2,8 +2,8 @@
 
        bench/run [LOWEST ORDER [HIGHEST ORDER]]        6 and 10 unless given
 
-   No other way to build a list, to combine two, to name a block, to write and read a file or a position in mils is
-   timed in its own table before it has given what the library gives. */
+   No other way to build a list, to combine two, to name a block, to write and read a file or a position in mils, or to
+   load a table of rights is timed in its own table before it has given what the library gives. */
 #include "bench.h"
 #include "builds.h"
 #include "stack.h"
@@ -118,8 +118,8 @@ static const struct table {
      openings, BED_KINDS - 1, 0, 0},
     {"calls",
      "\nOther calls: nanoseconds for each tile (decode: pixel; fresh: slot) × the library's time divided by that of "
-     "straightforward C.\nEvery call but read and fresh checks the whole list first. For the roster, straightforward C "
-     "keeps an array of totals; the library counts each account from the list.\n"
+     "straightforward C.\nEvery call but read and fresh checks the whole list first. Rights go by the old table.\n"
+     "For the roster, straightforward C keeps an array of totals; the library counts each account from the list.\n"
      "Of a scan half done, by rows, lookup, rights, preview and claim also check that each tile is scanned; it has no "
      "file.\n\n"
      "| order | bed | tiles | check | lookup | part | rights | preview | claim | write | read | decode | fresh |\n"
@@ -264,5 +264,6 @@ int main(int argc, char **argv)
     lookups(lowest, highest);
     rosters(&b, highest);
     mils();
+    tables_of_rights();
     return 0;
 }

@@ -90,7 +90,8 @@ void short_lists(struct bench *b, uint32_t order);
 /* The table of lookups. */
 void lookups(uint32_t lowest, uint32_t highest);
 
-/* The table of positions in mils, of the highest order there is. */
+/* The tables of positions in mils and of loads, of the highest order there is. */
 void mils(void);
+void tables_of_rights(void);
 
 #endif

@@ -13,9 +13,10 @@ static void same_block(kb_lookup_answer ours, kb_lookup_answer other)
     }
 }
 
-/* Three cells: lookup at a pixel, the quadrant part of a block, rights at the pixel. */
+/* Three cells: lookup at a pixel, the quadrant part of a block, rights at the pixel by the old table. */
 static void asks(struct bench *b, size_t m, uint32_t at, uint32_t corner)
 {
+    static const uint8_t old[KB_TABLE_LENGTH] = KB_OLD_TABLE;
     uint32_t order = b->order, scanned = b->scanned, *slots = b->slots;
     size_t tiles = b->tiles;
     struct timing ours, straight;
@@ -27,8 +28,8 @@ static void asks(struct bench *b, size_t m, uint32_t at, uint32_t corner)
     BOTH(ours, must(kb_part(order, tiles, slots, m, corner, 2).number),
          straight, must(straight_part(order, tiles, slots, m, corner, 2).number));
     cell(&ours, &straight, tiles);
-    BOTH(ours, must(kb_rights(KB_ROWS, order, scanned, tiles, slots, m, at, at, 9).number),
-         straight, must(straight_rights(KB_ROWS, order, scanned, tiles, slots, m, at, at, 9).number));
+    BOTH(ours, must(kb_rights(old, sizeof old, KB_ROWS, order, scanned, tiles, slots, m, at, at, 9).number),
+         straight, must(straight_rights(old, sizeof old, KB_ROWS, order, scanned, tiles, slots, m, at, at, 9).number));
     cell(&ours, &straight, tiles);
 }
 

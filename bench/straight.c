@@ -131,26 +131,6 @@ kb_part_answer straight_part(uint32_t order, size_t tiles, const uint32_t *slots
     return answer;
 }
 
-static int class_of(uint8_t account) { return account <= 7 ? 0 : account <= 47 ? 1 : 2; }
-
-kb_rights_answer straight_rights(uint32_t kind, uint32_t order, uint32_t pixels, size_t tiles,
-                                 const uint32_t *slots, size_t slots_length, uint32_t column, uint32_t row,
-                                 uint8_t account)
-{
-    static const uint8_t table[3][5] = {{1, 1, 1, 1, 0}, {1, 1, 0, 0, 0}, {1, 0, 0, 0, 0}};
-    kb_lookup_answer found = straight_lookup(kind, order, pixels, tiles, slots, slots_length, column, row);
-    kb_rights_answer answer = {found.number, 0};
-    if (answer.number)
-        return answer;
-    if (account == 0 || account > KB_HIGHEST_ACCOUNT) {
-        answer.number = KB_ASKER_INVALID;
-        return answer;
-    }
-    int ground = found.account == account ? 0 : found.account == 0 ? 1 : 4 - class_of(found.account);
-    answer.yes = table[class_of(account)][ground];
-    return answer;
-}
-
 /* The pieces of a tile around and with a block inside it that gets another account. */
 static void split(uint32_t tile, uint32_t corner, uint32_t size, uint8_t account, uint32_t *pieces)
 {

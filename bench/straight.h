@@ -14,7 +14,8 @@ kb_lookup_answer straight_lookup(uint32_t kind, uint32_t order, uint32_t pixels,
                                  const uint32_t *slots, size_t slots_length, uint32_t column, uint32_t row);
 kb_part_answer straight_part(uint32_t order, size_t tiles, const uint32_t *slots, size_t slots_length,
                              uint32_t corner, uint32_t size);
-kb_rights_answer straight_rights(uint32_t kind, uint32_t order, uint32_t pixels, size_t tiles,
+kb_rights_answer straight_rights(const uint8_t *table, size_t table_length,
+                                 uint32_t kind, uint32_t order, uint32_t pixels, size_t tiles,
                                  const uint32_t *slots, size_t slots_length, uint32_t column, uint32_t row,
                                  uint8_t account);
 kb_preview_answer straight_preview(uint32_t kind, uint32_t order, uint32_t pixels, size_t tiles,
@@ -32,6 +33,7 @@ kb_combine_answer straight_combine(uint32_t choice,
 kb_mils_pixel_answer straight_mils_pixel(uint32_t order, const uint8_t *text, size_t text_length);
 kb_mils_h_answer straight_mils_h(uint32_t order, uint32_t pixel);
 kb_mils_text_answer straight_mils_text(uint32_t order, uint32_t pixel, uint8_t *text, size_t text_length);
+uint32_t straight_load(const uint8_t *file, size_t file_length, uint8_t *table, size_t table_length);
 
 /* Used by more than one of the files here. straight_place is how many places come before a pixel's own in a scan;
    straight_opening has the opening checks. */

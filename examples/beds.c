@@ -1,6 +1,7 @@
 /* A host program for the library: scans a bed with some boards on it, asks ahead of the camera, claims a block, shows
-   the bed on a panel, goes over it with a head, asks who may place where, also by a position in mils, and what lies in
-   the reserved zones, archives the map and reads it back, and is refused something.
+   the bed on a panel, goes over it with a head, asks who may place where, also by a position in mils and by the lab's
+   own table of rights, and what lies in the reserved zones, archives the map and reads it back, and is refused
+   something.
 
        gcc -O2 -Iinclude examples/beds.c target/staticlib/libkingletbed.a -o target/beds
        target/beds [MAP FILE]        bed.map unless named; kbmap draws it */
@@ -35,6 +36,18 @@ static const struct board boards[] = {
 #define CLAIM_SIDE (1 << CLAIM_SIZE)
 #define CLAIM_ACCOUNT 21
 
+/* The table in force: the old one, until the lab loads its own. */
+static uint8_t table[KB_TABLE_LENGTH] = KB_OLD_TABLE;
+
+/* The lab's file for workshops: a count, then the rows of staff, students and guests. By it a guest may place on
+   nobody's pixels, the second column. */
+static const uint8_t workshop[KB_TABLE_FILE_LENGTH] = {
+    15,
+    1, 1, 1, 1, 0,
+    1, 1, 0, 0, 0,
+    1, 1, 0, 0, 0,
+};
+
 /* What the camera would see: the account of each pixel, row after row. */
 static void place_boards(uint8_t *raster)
 {
@@ -57,7 +70,7 @@ static void must(uint32_t number, const char *what)
    no board was seen there does not make the ground free. */
 static void ask_early(const kb_scan *scan, uint32_t column, uint32_t row)
 {
-    kb_rights_answer right = kb_scan_rights(scan, column, row, 12);
+    kb_rights_answer right = kb_scan_rights(scan, table, sizeof table, column, row, 12);
     printf("After %u pixels, student 12 at (%u, %u): %s.\n", scan->pixels, column, row,
            right.number != KB_ACCEPTED ? kb_refusal_text(right.number) : right.yes ? "yes" : "no");
 }
@@ -152,7 +165,7 @@ static void ask(const kb_scan *scan, uint32_t account, uint32_t column, uint32_t
 {
     kb_lookup_answer found = kb_scan_lookup(scan, column, row);
     must(found.number, "the lookup");
-    kb_rights_answer right = kb_scan_rights(scan, column, row, account);
+    kb_rights_answer right = kb_scan_rights(scan, table, sizeof table, column, row, account);
     must(right.number, "the rights call");
     printf("  %-7s %2u at (%2u, %2u), ", class_of(account), account, column, row);
     if (found.account == 0)
@@ -284,6 +297,10 @@ int main(int argc, char **argv)
     ask(&scan, 12, 62, 2);
     ask(&scan, 51, 62, 2);
     ask_in_mils(&scan, 18, "677.16", "413.50");
+    must(kb_load(workshop, sizeof workshop, table, sizeof table), "the workshop's table");
+    printf("And by the lab's table for workshops?\n");
+    ask(&scan, 51, 62, 2);
+    ask(&scan, 51, CLAIM_COLUMN + 2, CLAIM_ROW + 2);
     printf("The block that account %d claimed begins at ", CLAIM_ACCOUNT);
     print_mils(CLAIM_COLUMN, " mils across, ");
     print_mils(CLAIM_ROW, " down.\n");
@@ -292,5 +309,6 @@ int main(int argc, char **argv)
     printf("A claim for account 256: %s.\n", kb_refusal_text(kb_scan_claim(&scan, 0, 0, 256)));
     printf("A block at column %d: %s.\n", SIDE, kb_refusal_text(kb_block(ORDER, SIDE, 0, CLAIM_SIZE).number));
     printf("A position of 1007.88 mils: %s.\n", kb_refusal_text(in_mils("1007.88").number));
+    printf("The workshop's file, cut short: %s.\n", kb_refusal_text(kb_load(workshop, 15, table, sizeof table)));
     return 0;
 }

@@ -27,6 +27,9 @@
               digits, with no needless leading zero: 0.45 or 123.45, not .45, 00.45 or 1.5. In hundredths of a mil it
               is a number h, 45 or 12345. A pixel is 400 micrometres wide and an inch 25,400, so that h lies in column
               or row floor(h * 127 / 200000).
+     table    of rights, which says who may place where: a row for each class that may ask, by a column for each kind of
+              pixel. It is 15 bytes, 1 for yes and 0 for no. The table in force is the one that you keep and hand in;
+              the old table, which kb_rights shows, is in force until a load is accepted.
 
    Calling
      Nothing is allocated and nothing is kept between calls: a call works on its arguments alone, so calls on separate
@@ -61,7 +64,7 @@
 #include <stddef.h>
 #include <stdint.h>
 
-#define KB_VERSION "0.9.2"
+#define KB_VERSION "0.10.0"
 
 /* An answer that is dropped is a mistake, of which the compiler warns. */
 #if (defined(__cplusplus) && __cplusplus >= 201703L) || (defined(__STDC_VERSION__) && __STDC_VERSION__ >= 202311L)
@@ -139,11 +142,14 @@ enum kb_number {
     KB_UNSCANNED = 52,          /* the point is unscanned, the block has an unscanned pixel, or the scan to be written
                                    is unfinished */
     KB_POSITION_INVALID = 53,   /* the text is no position in mils, or the position is off the bed */
-    KB_ROSTER_UNSORTED = 54     /* the account of a roster entry is not above that of the entry ahead of it */
+    KB_ROSTER_UNSORTED = 54,    /* the account of a roster entry is not above that of the entry ahead of it */
+    KB_TABLE_MALFORMED = 55,    /* the table of rights has a wrong count, a wrong length or a byte above 1 */
+    KB_TABLE_UNSOUND = 56       /* a row of the table does not say yes to its own pixels, or lacks a yes of the row
+                                   below it */
 };
 
-/* The answers. kb_check and kb_decode answer the number alone, kb_tile_corner, kb_tile_size and kb_tile_account the
-   field alone. */
+/* The answers. kb_check, kb_decode and kb_load answer the number alone, kb_tile_corner, kb_tile_size and
+   kb_tile_account the field alone. */
 typedef struct { uint32_t number; uint32_t side; uint32_t pixels; } kb_extent_answer;
 typedef struct { uint32_t number; uint32_t morton; } kb_morton_answer;
 typedef struct { uint32_t number; uint32_t corner; uint32_t size; } kb_block_answer;
@@ -215,6 +221,27 @@ KB_MUST_USE kb_mils_text_answer kb_mils_text(uint32_t order, uint32_t pixel, uin
 /* Bytes that are enough for the text of a position. */
 #define KB_MILS_TEXT_MOST 8
 
+/* ---- The table of rights ----
+   Its rows are those of staff, students and guests; its columns the asker's own pixel, nobody's, another guest's,
+   another student's, another staff member's. Row r has in column k the byte 5 * r + k, both counted from 0. You keep
+   the table in force, KB_TABLE_LENGTH bytes, and hand it to each kb_rights. Begin with the old one:
+       uint8_t table[KB_TABLE_LENGTH] = KB_OLD_TABLE; */
+#define KB_TABLE_LENGTH 15
+#define KB_OLD_TABLE {1, 1, 1, 1, 0, \
+                      1, 1, 0, 0, 0, \
+                      1, 0, 0, 0, 0}
+
+/* Loads the lab's own table from a file: a count byte, which is 15, then the 15 bytes of the table.
+     refuses   KB_TABLE_MALFORMED for another count, a file of another length than KB_TABLE_FILE_LENGTH, a byte above 1
+               or a `table` of another length than KB_TABLE_LENGTH; then KB_TABLE_UNSOUND unless each row says yes to
+               its own pixels, a student has every yes of a guest and staff every yes of a student, column by column
+     accepts   the file's table is in force. The old one is accepted like any other
+     storage   accepted, `table` holds the 15 bytes behind the count; refused, it is as it was, whatever it held */
+KB_MUST_USE uint32_t kb_load(const uint8_t *file, size_t file_length, uint8_t *table, size_t table_length);
+
+/* Bytes of a table's file. */
+#define KB_TABLE_FILE_LENGTH 16
+
 /* ---- Calls on a map ----
    kb_feed, kb_lookup, kb_rights, kb_claim, kb_preview and kb_write are handed a scan's record. kb_check, kb_decode,
    kb_part and kb_combine are handed order and tile count alone, and take an unscanned pixel as nobody's. */
@@ -254,7 +281,7 @@ KB_MUST_USE uint32_t kb_decode(uint32_t order, size_t tiles, const uint32_t *slo
 /* The account at a scanned pixel, 0 for nobody's, and the largest block with the pixel in it that is wholly scanned and
    has this account on all its pixels: for somebody's pixel its tile, for nobody's the largest block that is all free.
    Every pixel of the block gives this answer and no other pixel does, and kb_rights answers alike on all of it: a head
-   that stays inside need not ask again while the scan stays as it is (kb_lookup_has).
+   that stays inside need not ask again while scan and table in force stay as they are (kb_lookup_has).
      refuses   the opening checks, KB_POINT_OUTSIDE, KB_UNSCANNED; account, corner and size are then 0, which says
                nothing: the free pixel (0, 0) can have these too, so look at the number first
      storage   nothing is written */
@@ -273,16 +300,22 @@ KB_MUST_USE kb_lookup_answer kb_lookup(uint32_t kind, uint32_t order, uint32_t p
 KB_MUST_USE kb_part_answer kb_part(uint32_t order, size_t tiles, const uint32_t *slots, size_t slots_length,
                                    uint32_t corner, uint32_t size);
 
-/* May an account place at a pixel? `yes` is 1 or 0. Accounts 1 to 7 are staff, 8 to 47 students, 48 to 63 guests.
+/* May an account place at a pixel, by the table in force? `yes` is 1 or 0. Accounts 1 to 7 are staff, 8 to 47 students,
+   48 to 63 guests. The old table is
                   own pixel   nobody's   another guest's   another student's   another staff member's
        staff      yes         yes        yes               yes                 no
        students   yes         yes        no                no                  no
        guests     yes         no         no                no                  no
+   A table that no kb_load would accept counts as the old one: one of another length than KB_TABLE_LENGTH, so NULL with
+   length 0 and a whole file too, one of zeros alone, and any other. It is no refusal.
+   Whatever table is handed in, every account may place on its own pixels. At a pixel that is not the asker's own, a yes
+   to a guest is a yes to every student, and a yes to a student is a yes to all staff.
    Unscanned ground is refused, whoever asks. An account cut to a byte on its way here, 257 to 1, asks as another: see
    kb_account_byte.
      refuses   the opening checks, KB_POINT_OUTSIDE, KB_UNSCANNED, KB_ASKER_INVALID
      storage   nothing is written */
-KB_MUST_USE kb_rights_answer kb_rights(uint32_t kind, uint32_t order, uint32_t pixels, size_t tiles,
+KB_MUST_USE kb_rights_answer kb_rights(const uint8_t *table, size_t table_length,
+                                       uint32_t kind, uint32_t order, uint32_t pixels, size_t tiles,
                                        const uint32_t *slots, size_t slots_length, uint32_t column, uint32_t row,
                                        uint8_t account);
 
@@ -482,11 +515,13 @@ KB_MUST_USE static inline kb_lookup_answer kb_scan_lookup(const kb_scan *scan, u
                      kb_number_word(column), kb_number_word(row));
 }
 
-/* Every account above 63 is KB_ASKER_INVALID, 257 too. */
-KB_MUST_USE static inline kb_rights_answer kb_scan_rights(const kb_scan *scan, uint64_t column, uint64_t row,
+/* By the table in force, which is no part of the scan. Every account above 63 is KB_ASKER_INVALID, 257 too. */
+KB_MUST_USE static inline kb_rights_answer kb_scan_rights(const kb_scan *scan, const uint8_t *table,
+                                                          size_t table_length, uint64_t column, uint64_t row,
                                                           uint64_t account)
 {
-    return kb_rights(scan->kind, scan->order, scan->pixels, scan->tiles, scan->slots, scan->slots_length,
+    return kb_rights(table, table_length, scan->kind, scan->order, scan->pixels, scan->tiles,
+                     scan->slots, scan->slots_length,
                      kb_number_word(column), kb_number_word(row), kb_account_byte(account));
 }
 
@@ -568,6 +603,8 @@ KB_MUST_USE static inline const char *kb_refusal_text(uint32_t number)
     case KB_UNSCANNED: return "the pixel, the block or the bed is not wholly scanned yet";
     case KB_POSITION_INVALID: return "the text is no position in mils, or the position is off the bed";
     case KB_ROSTER_UNSORTED: return "the accounts in the file's roster do not rise from entry to entry";
+    case KB_TABLE_MALFORMED: return "the table of rights has a wrong count, a wrong length or a byte above 1";
+    case KB_TABLE_UNSOUND: return "a row of the table of rights lacks a yes that it must have";
     default: return "a number that this version does not know";
     }
 }

@@ -1,9 +1,9 @@
 //! A shift at the machine: the bed is scanned row by row, a student's ground is claimed, accounts ask whether they may
-//! place there, and the bed is archived and read back.
+//! place there, also by the lab's own table of rights, and the bed is archived and read back.
 //!
 //!     cargo run --example shift
 
-use kingletbed::{Account, Bed, Block, Kind, Pixel};
+use kingletbed::{Account, Bed, Block, Kind, Pixel, Table};
 use std::error::Error;
 use std::fmt::Write;
 
@@ -17,6 +17,15 @@ const SEEN: [[u8; 8]; 8] = [
     [0, 0, 0, 0, 0, 0, 0, 0],
     [0, 0, 0, 48, 48, 0, 0, 0],
     [0, 0, 0, 48, 48, 0, 0, 0],
+];
+
+/// The lab's table of rights for workshops, as its file has it: a count, then a row each for staff, students and
+/// guests. By it a guest may place on nobody's pixels, the second column.
+const WORKSHOP: [u8; Table::FILE_LENGTH] = [
+    15, //
+    1, 1, 1, 1, 0, //
+    1, 1, 0, 0, 0, //
+    1, 1, 0, 0, 0, //
 ];
 
 fn main() -> Result<(), Box<dyn Error>> {
@@ -45,9 +54,9 @@ pub fn shift(text: &mut String) -> Result<(), Box<dyn Error>> {
 
     // The bed that was claimed on is the bed that is asked: there is no older one that could still say nobody.
     for asking in [student, Account(9), Account(3), Account(48)] {
-        let may = if bed.rights(at, asking)? { "may" } else { "may not" };
-        writeln!(text, "{asking} {may} place on ground of {}", bed.lookup(at)?.account)?;
+        ask(&bed, &Table::OLD, at, asking, text)?;
     }
+    workshop(&bed, at, text)?;
 
     // To the archive, and back to a bed of its own.
     let mut file = vec![0; bed.file_room()];
@@ -57,5 +66,31 @@ pub fn shift(text: &mut String) -> Result<(), Box<dyn Error>> {
 
     bed.release(ground)?;
     writeln!(text, "released, and no longer as archived: {}", archived != bed)?;
+    Ok(())
+}
+
+/// In the afternoon guests come. The lab's table is in force once it is loaded; a load that is refused leaves it so.
+fn workshop(bed: &Bed<[u32; 64]>, held: Pixel, text: &mut String) -> Result<(), Box<dyn Error>> {
+    let (mut table, guest, nobodys) = (Table::OLD, Account(48), Pixel { column: 7, row: 7 });
+    ask(bed, &table, nobodys, guest, text)?;
+    table.load(&WORKSHOP)?;
+    writeln!(text, "the lab's table for workshops is loaded")?;
+    if let Err(refusal) = table.load(&WORKSHOP[..15]) {
+        writeln!(text, "the same file, cut short, is refused: {refusal}")?;
+    }
+    ask(bed, &table, nobodys, guest, text)?;
+    ask(bed, &table, held, guest, text)
+}
+
+/// Whether an account may place at a pixel, by the table in force.
+fn ask(
+    bed: &Bed<[u32; 64]>,
+    table: &Table,
+    at: Pixel,
+    asking: Account,
+    text: &mut String,
+) -> Result<(), Box<dyn Error>> {
+    let may = if bed.rights(table, at, asking)? { "may" } else { "may not" };
+    writeln!(text, "{asking} {may} place on ground of {}", bed.lookup(at)?.account)?;
     Ok(())
 }

@@ -1,7 +1,7 @@
 //! What may be asked of a bed.
 
 use crate::bed::pixels_of;
-use crate::{raw, Account, Bed, Block, Found, Kind, Pixel, Refusal, Shown, Tile, Tiles};
+use crate::{raw, Account, Bed, Block, Found, Kind, Pixel, Refusal, Shown, Table, Tile, Tiles};
 
 // No call here can panic, whatever the slots give: the part of them that an answer names is taken by `get`.
 impl<S: AsRef<[u32]>> Bed<S> {
@@ -125,8 +125,8 @@ impl<S: AsRef<[u32]>> Bed<S> {
 
     /// Whose a pixel is, and the largest block with the pixel in it that is all of this account and wholly scanned: see
     /// [`Found`]. Every pixel of that block gives this answer, and no other pixel does; [`rights`](Bed::rights) answers
-    /// alike on all of it. So a head that stays inside need not ask again while the bed stays as it is. A pixel that is
-    /// not scanned yet is refused.
+    /// alike on all of it by one table. So a head that stays inside need not ask again while bed and table stay as they
+    /// are. A pixel that is not scanned yet is refused.
     ///
     /// ```
     /// use kingletbed::{Account, Bed, Block, Found, Kind, Pixel, Refusal};
@@ -152,21 +152,29 @@ impl<S: AsRef<[u32]>> Bed<S> {
         Ok(Found { account: Account(answer.account), block })
     }
 
-    /// Whether an account may place at a pixel: on its own always, on nobody's unless it is a guest, on another's only
-    /// as staff and not on another staff member's. Where the pixel is not scanned yet nobody may: that is refused.
+    /// Whether an account may place at a pixel, by the table in force. By [`Table::OLD`] it may on its own always, on
+    /// nobody's unless it is a guest, on another's only as staff and not on another staff member's. By every table it
+    /// may on its own; and where a guest may on a pixel that is not its own, every student may, and where a student
+    /// may, all staff. Where the pixel is not scanned yet nobody may: that is refused.
     ///
     /// ```
-    /// use kingletbed::{Account, Bed, Pixel};
+    /// use kingletbed::{Account, Bed, Pixel, Table};
     /// let bed = Bed::from_slots(2, 4, [69, 7177, 8201, 12361])?;
     /// let pixel = Pixel { column: 3, row: 1 }; // account 9's
-    /// assert!(bed.rights(pixel, Account(9))?);
-    /// assert!(bed.rights(pixel, Account(5))?);
-    /// assert!(!bed.rights(pixel, Account(48))?);
+    /// assert!(bed.rights(&Table::OLD, pixel, Account(9))?);
+    /// assert!(bed.rights(&Table::OLD, pixel, Account(5))?);
+    /// assert!(!bed.rights(&Table::OLD, pixel, Account(48))?);
+    ///
+    /// let workshop = Table::from_file(&[15, 1, 1, 1, 1, 0, 1, 1, 0, 0, 0, 1, 1, 0, 0, 0])?;
+    /// let pixel = Pixel { column: 2, row: 0 }; // nobody's
+    /// assert!(!bed.rights(&Table::OLD, pixel, Account(48))?);
+    /// assert!(bed.rights(&workshop, pixel, Account(48))?);
     /// # Ok::<(), kingletbed::Refusal>(())
     /// ```
-    pub fn rights(&self, at: Pixel, asking: Account) -> Result<bool, Refusal> {
-        let (kind, slots) = (self.kind.number(), self.slots());
-        let answer = raw::rights(kind, self.order, self.scanned, self.tiles, slots, at.column, at.row, asking.0);
+    pub fn rights(&self, table: &Table, at: Pixel, asking: Account) -> Result<bool, Refusal> {
+        let (rows, kind, slots) = (table.bytes(), self.kind.number(), self.slots());
+        let (order, scanned, tiles) = (self.order, self.scanned, self.tiles);
+        let answer = raw::rights(rows, kind, order, scanned, tiles, slots, at.column, at.row, asking.0);
         Refusal::outcome(answer.number)?;
         Ok(answer.yes != 0)
     }

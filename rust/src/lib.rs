@@ -6,10 +6,10 @@
 //! from a file, made of slots that have a list already, or combined of two beds: the first's pixels inside the second's
 //! held ground, or outside it. A lookup tells whose a pixel is, and the largest block around it that is all of that
 //! account and wholly scanned. Ground that the scan has not reached yet is not free: what is asked or claimed there is
-//! refused.
+//! refused. Who may place where is said by a [`Table`], the old one or the lab's own.
 //!
 //! ```
-//! use kingletbed::{Account, Bed, Block, Kind, Pixel};
+//! use kingletbed::{Account, Bed, Block, Kind, Pixel, Table};
 //!
 //! # fn main() -> Result<(), Box<dyn std::error::Error>> {
 //! let mut bed = Bed::fresh(Kind::Rows, 2, [0; 16])?;
@@ -19,7 +19,7 @@
 //!
 //! bed.claim(Block { corner: 4, size: 1 }, Account(9))?;
 //! assert_eq!(bed.lookup(Pixel { column: 2, row: 0 })?.account, Account(9));
-//! assert!(!bed.rights(Pixel { column: 2, row: 0 }, Account(48))?);
+//! assert!(!bed.rights(&Table::OLD, Pixel { column: 2, row: 0 }, Account(48))?);
 //! # Ok(())
 //! # }
 //! ```
@@ -50,6 +50,7 @@ pub mod mils;
 pub mod raw;
 mod refusal;
 mod scan;
+mod table;
 mod tile;
 
 pub use account::Account;
@@ -58,6 +59,7 @@ pub use block::{Block, Found, Pixel};
 pub use choice::Choice;
 pub use refusal::Refusal;
 pub use scan::{Kind, Stopped};
+pub use table::Table;
 pub use tile::{Shown, Tile, Tiles};
 
 /// Orders and sizes go from 0 to it.

@@ -33,7 +33,7 @@ mod numbers;
 pub use answers::{Around, Claimed, Combined, Extent, Fed, Found, Fresh, Morton, Part, Point, Reading, Right, Written};
 pub use answers::{MilsH, MilsPixel, MilsText};
 pub use numbers::{block, extent, morton, point, tile_account, tile_corner, tile_size};
-pub use numbers::{mils_h, mils_pixel, mils_text};
+pub use numbers::{load, mils_h, mils_pixel, mils_text};
 
 #[rustfmt::skip]
 extern "C" {
@@ -46,7 +46,8 @@ extern "C" {
     fn kb_lookup(kind: u32, order: u32, pixels: u32, tiles: usize, slots: *const u32, slots_length: usize,
                  column: u32, row: u32) -> Found;
     fn kb_part(order: u32, tiles: usize, slots: *const u32, slots_length: usize, corner: u32, size: u32) -> Part;
-    fn kb_rights(kind: u32, order: u32, pixels: u32, tiles: usize, slots: *const u32, slots_length: usize,
+    fn kb_rights(table: *const u8, table_length: usize,
+                 kind: u32, order: u32, pixels: u32, tiles: usize, slots: *const u32, slots_length: usize,
                  column: u32, row: u32, account: u8) -> Right;
     fn kb_claim(kind: u32, order: u32, pixels: u32, tiles: usize, slots: *mut u32, slots_length: usize,
                 corner: u32, size: u32, account: u8) -> Claimed;
@@ -144,15 +145,20 @@ pub fn part(order: u32, tiles: usize, slots: &[u32], corner: u32, size: u32) -> 
     unsafe { kb_part(order, tiles, slots.as_ptr(), slots.len(), corner, size) }
 }
 
-/// `kb_rights`. Whether an account may place at a pixel: 1 or 0.
+/// `kb_rights`. Whether an account may place at a pixel by the table in force: 1 or 0. A table that no [`load`] would
+/// accept, so none at all too, counts as the old one.
 ///
 /// ```
 /// use kingletbed::raw;
-/// assert_eq!(raw::rights(0, 1, 4, 1, &[71], 1, 0, 8).yes, 0);
+/// let table = [1, 1, 1, 1, 0, 1, 1, 0, 0, 0, 1, 1, 0, 0, 0];
+/// assert_eq!(raw::rights(&table, 0, 1, 4, 1, &[7], 1, 0, 48).yes, 1); // a guest on nobody's pixel
+/// assert_eq!(raw::rights(&table[..14], 0, 1, 4, 1, &[7], 1, 0, 48).yes, 0);
+/// assert_eq!(raw::rights(&[], 0, 1, 4, 1, &[7], 1, 0, 48).yes, 0);
 /// ```
 #[must_use]
 #[allow(clippy::too_many_arguments)]
 pub fn rights(
+    table: &[u8],
     kind: u32,
     order: u32,
     pixels: u32,
@@ -162,7 +168,8 @@ pub fn rights(
     row: u32,
     account: u8,
 ) -> Right {
-    unsafe { kb_rights(kind, order, pixels, tiles, slots.as_ptr(), slots.len(), column, row, account) }
+    let (rows, length) = (table.as_ptr(), table.len());
+    unsafe { kb_rights(rows, length, kind, order, pixels, tiles, slots.as_ptr(), slots.len(), column, row, account) }
 }
 
 /// `kb_claim`. Gives a block to an account.
@@ -292,7 +299,9 @@ mod tests {
             assert_eq!(kb_lookup(0, 10, 1 << 20, 0, null_mut(), 0, 1023, 1023), found(0, 10));
             assert_eq!(kb_lookup(0, 10, (1 << 20) - 1, 0, null_mut(), 0, 1023, 1023), found(52, 0));
             assert_eq!(kb_part(10, 0, null_mut(), 0, 4, 1), Part { number: 0, position: 0, length: 0 });
-            assert_eq!(kb_rights(0, 0, 1, 0, null_mut(), 0, 0, 0, 8), Right { number: 0, yes: 1 });
+            let right = |yes| Right { number: 0, yes };
+            assert_eq!(kb_rights(null_mut(), 0, 0, 0, 1, 0, null_mut(), 0, 0, 0, 8), right(1));
+            assert_eq!(kb_rights(null_mut(), 0, 0, 0, 1, 0, null_mut(), 0, 0, 0, 48), right(0));
             let claimed = |number| Claimed { number, tiles: 0 };
             assert_eq!(kb_claim(0, 0, 1, 0, null_mut(), 0, 0, 0, 8), claimed(25));
             assert_eq!(kb_claim(0, 0, 1, 0, null_mut(), 0, 0, 0, 0), claimed(0));

@@ -25,7 +25,7 @@ macro_rules! refusals {
             ///
             /// ```
             /// use kingletbed::Refusal;
-            /// assert_eq!(Refusal::ALL.len(), 25);
+            /// assert_eq!(Refusal::ALL.len(), 27);
             /// ```
             pub const ALL: &'static [Refusal] = &[$(Refusal::$name,)*];
 
@@ -84,6 +84,8 @@ refusals! {
     Unscanned = 52, "the pixel, the block or the bed is not wholly scanned yet";
     PositionInvalid = 53, "the text is no position in mils, or the position is off the bed";
     RosterUnsorted = 54, "the accounts in the file's roster do not rise from entry to entry";
+    TableMalformed = 55, "the table of rights has a wrong count, a wrong length or a byte above 1";
+    TableUnsound = 56, "a row of the table of rights lacks a yes that it must have";
 }
 
 /// How many letters the header's spelling of a name has: one more for each capital but the first.
@@ -157,12 +159,12 @@ mod tests {
     #[test]
     fn outcomes() {
         assert_eq!(Refusal::outcome(0), Ok(()));
-        for number in 1..=55 {
+        for number in 1..=57 {
             let refusal = Refusal::outcome(number).expect_err("a refusal");
             assert!(refusal.number() <= number);
             assert_eq!(Refusal::from_number(number).unwrap_or(refusal), refusal);
         }
-        assert_eq!(Refusal::outcome(u32::MAX), Err(Refusal::RosterUnsorted));
+        assert_eq!(Refusal::outcome(u32::MAX), Err(Refusal::TableUnsound));
     }
 
     #[test]

@@ -1,7 +1,7 @@
 //! What a bed promises beyond the comparison: it cannot go stale, a scan can be taken apart and made again, nothing is
 //! given away that is not scanned, any slots will do, and slots that lie do no harm.
 
-use kingletbed::{raw, Account, Bed, Block, Choice, Found, Kind, Pixel, Refusal, Tile};
+use kingletbed::{raw, Account, Bed, Block, Choice, Found, Kind, Pixel, Refusal, Table, Tile};
 use std::cell::Cell;
 use std::fmt::Debug;
 
@@ -19,11 +19,12 @@ fn no_stale_bed() -> Result<(), Refusal> {
     let at = Pixel { column: 1, row: 1 };
     let mut bed = Bed::fresh(Kind::Rows, 1, [0; 4])?;
     bed.feed(&[8, 0, 0, 0])?;
-    assert_eq!((bed.lookup(at)?.account, bed.rights(at, student)?), (Account::NOBODY, true));
+    assert_eq!((bed.lookup(at)?.account, bed.rights(&Table::OLD, at, student)?), (Account::NOBODY, true));
     bed.claim(Block { corner: 3, size: 0 }, other)?;
-    assert_eq!((bed.lookup(at)?.account, bed.rights(at, student)?), (other, false));
+    assert_eq!((bed.lookup(at)?.account, bed.rights(&Table::OLD, at, student)?), (other, false));
     // The raw calls with the count of before say otherwise, which is why a bed keeps its count to itself.
-    let (stale, right) = (raw::lookup(0, 1, 4, 1, bed.slots(), 1, 1), raw::rights(0, 1, 4, 1, bed.slots(), 1, 1, 8));
+    let stale = raw::lookup(0, 1, 4, 1, bed.slots(), 1, 1);
+    let right = raw::rights(Table::OLD.bytes(), 0, 1, 4, 1, bed.slots(), 1, 1, 8);
     assert_eq!((stale.number, stale.account, right.yes), (0, 0, 1));
     bed.release(Block::whole(1))?;
     assert_eq!(bed.lookup(at)?, Found { account: Account::NOBODY, block: Block::whole(1) });
@@ -119,7 +120,7 @@ fn nothing_on_unscanned_ground() -> Result<(), Refusal> {
             assert_eq!(bed.release(block), Err(Refusal::Unscanned));
             assert!(bed.shown(block)?.eq(bed.part(block)?.iter().map(|&word| Tile::of_word(word))));
         }
-        assert_eq!(bed.rights(Pixel { column: 3, row: 3 }, Account(1)), Err(Refusal::Unscanned));
+        assert_eq!(bed.rights(&Table::OLD, Pixel { column: 3, row: 3 }, Account(1)), Err(Refusal::Unscanned));
         assert_eq!((bed.slots(), bed.scanned()), (before.slots(), before.scanned()));
     }
     Ok(())
@@ -302,7 +303,7 @@ fn ask(bed: &mut Bed<Turning>, seed: usize, counts: &mut [usize; 2]) {
     let block = Block { corner: (seed % 4 * 4) as u32, size: (seed % 3) as u32 };
     let at = Pixel { column: (seed % 4) as u32, row: (seed / 4 % 4) as u32 };
     answered(bed.lookup(at), counts);
-    answered(bed.rights(at, Account(9)), counts);
+    answered(bed.rights(&Table::OLD, at, Account(9)), counts);
     answered(bed.part(block), counts);
     answered(bed.account_of(block), counts);
     answered(bed.is_block_scanned(block), counts);

@@ -1,9 +1,9 @@
 /* Every call with its answer dropped: a warning each. */
 #include "kingletbed.h"
 
-void drop(kb_scan *scan, kb_lookup_answer found, uint32_t *slots, uint32_t *out, uint8_t *bytes);
+void drop(kb_scan *scan, kb_lookup_answer found, uint32_t *slots, uint32_t *out, uint8_t *bytes, const uint8_t *table);
 
-void drop(kb_scan *scan, kb_lookup_answer found, uint32_t *slots, uint32_t *out, uint8_t *bytes)
+void drop(kb_scan *scan, kb_lookup_answer found, uint32_t *slots, uint32_t *out, uint8_t *bytes, const uint8_t *table)
 {
     kb_account_byte(0);
     kb_number_word(0);
@@ -17,6 +17,7 @@ void drop(kb_scan *scan, kb_lookup_answer found, uint32_t *slots, uint32_t *out,
     kb_mils_pixel(0, bytes, 1);
     kb_mils_h(0, 0);
     kb_mils_text(0, 0, bytes, 1);
+    kb_load(table, 1, bytes, 1);
     kb_check(0, 0, slots, 1);
     kb_fresh(KB_ROWS, 0, slots, 1);
     kb_feed(KB_ROWS, 0, 0, 0, slots, 1, bytes, 1);
@@ -25,7 +26,7 @@ void drop(kb_scan *scan, kb_lookup_answer found, uint32_t *slots, uint32_t *out,
     kb_lookup_has(found, 0, 0);
     kb_part(0, 0, slots, 1, 0, 0);
     kb_part_tiles(0, 0, slots, 1, 0, 0);
-    kb_rights(KB_ROWS, 0, 0, 0, slots, 1, 0, 0, 1);
+    kb_rights(table, 1, KB_ROWS, 0, 0, 0, slots, 1, 0, 0, 1);
     kb_claim(KB_ROWS, 0, 0, 0, slots, 1, 0, 0, 1);
     kb_preview(KB_ROWS, 0, 0, 0, slots, 1, 0, 0, 1);
     kb_write(KB_ROWS, 0, 0, 0, slots, 1, bytes, 1);
@@ -40,7 +41,7 @@ void drop(kb_scan *scan, kb_lookup_answer found, uint32_t *slots, uint32_t *out,
     kb_scan_check(scan);
     kb_scan_decode(scan, bytes, 1);
     kb_scan_lookup(scan, 0, 0);
-    kb_scan_rights(scan, 0, 0, 1);
+    kb_scan_rights(scan, table, 1, 0, 0, 1);
     kb_scan_part(scan, 0, 0);
     kb_scan_shown(scan, 0, 0);
     kb_scan_write(scan, bytes, 1);

@@ -17,6 +17,10 @@ int main(void)
     test_limits();
     test_texts();
     test_mils();
+    test_load();
+    test_load_unsound();
+    test_table_rights();
+    test_table_in_force();
     test_empty();
     test_fresh();
     test_feed();

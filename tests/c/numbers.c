@@ -56,7 +56,7 @@ void test_limits(void)
 void test_texts(void)
 {
     static const uint32_t numbers[] = {0, 1, 2, 11, 12, 13, 14, 15, 16, 21, 22, 23, 24, 25, 26,
-                                       31, 32, 33, 34, 41, 42, 43, 51, 52, 53, 54};
+                                       31, 32, 33, 34, 41, 42, 43, 51, 52, 53, 54, 55, 56};
     const char *unknown = "a number that this version does not know";
     size_t next = 0;
     for (uint32_t number = 0; number <= 70; number++) {
@@ -75,4 +75,6 @@ void test_texts(void)
     CHECK(strcmp(kb_refusal_text(52), "the pixel, the block or the bed is not wholly scanned yet") == 0);
     CHECK(strcmp(kb_refusal_text(53), "the text is no position in mils, or the position is off the bed") == 0);
     CHECK(strcmp(kb_refusal_text(54), "the accounts in the file's roster do not rise from entry to entry") == 0);
+    CHECK(strcmp(kb_refusal_text(55), "the table of rights has a wrong count, a wrong length or a byte above 1") == 0);
+    CHECK(strcmp(kb_refusal_text(56), "a row of the table of rights lacks a yes that it must have") == 0);
 }

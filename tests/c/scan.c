@@ -24,7 +24,8 @@ void test_empty(void)
     kb_scan scan = NO_SCAN;
     uint8_t account = 0, file[6];
     CHECK(kb_scan_check(&scan) == KB_ACCEPTED);
-    CHECK(kb_scan_lookup(&scan, 0, 0).number == KB_UNSCANNED && kb_scan_rights(&scan, 0, 0, 7).number == KB_UNSCANNED);
+    CHECK(kb_scan_lookup(&scan, 0, 0).number == KB_UNSCANNED);
+    CHECK(kb_scan_rights(&scan, NULL, 0, 0, 0, 7).number == KB_UNSCANNED);
     CHECK(kb_scan_preview(&scan, 0, 0, 7).number == KB_UNSCANNED && kb_scan_claim(&scan, 0, 0, 0) == KB_UNSCANNED);
     CHECK(kb_scan_write(&scan, file, 6).number == KB_UNSCANNED);
     CHECK(kb_scan_shown(&scan, 0, 0).number == KB_ACCEPTED && kb_scan_shown(&scan, 0, 0).account == KB_NO_ACCOUNT);
@@ -116,15 +117,15 @@ void test_accounts(void)
     for (size_t i = 0; i < sizeof strange / sizeof *strange; i++) {
         CHECK(kb_scan_claim(&scan, 0, 1, strange[i]) == KB_ACCOUNT_TOO_LARGE && scan.tiles == 4);
         CHECK(kb_scan_preview(&scan, 0, 1, strange[i]).number == KB_ACCOUNT_TOO_LARGE);
-        CHECK(kb_scan_rights(&scan, 0, 0, strange[i]).number == KB_ASKER_INVALID);
+        CHECK(kb_scan_rights(&scan, NULL, 0, 0, 0, strange[i]).number == KB_ASKER_INVALID);
         CHECK(memcmp(kept, slots, sizeof slots) == 0);
     }
     for (uint32_t account = 0; account < 255; account++)
         CHECK(kb_account_byte(account) == account);
-    CHECK(kb_scan_rights(&scan, 0, 0, 0).number == KB_ASKER_INVALID);
-    CHECK(kb_scan_rights(&scan, 0, 0, 5).yes == 1 && kb_scan_rights(&scan, 0, 0, 9).yes == 0);
-    CHECK(kb_scan_rights(&scan, 3, 1, 12).yes == 0 && kb_scan_rights(&scan, 1, 3, 12).yes == 1);
-    CHECK(kb_scan_rights(&scan, 4, 0, 5).number == KB_POINT_OUTSIDE);
+    CHECK(kb_scan_rights(&scan, NULL, 0, 0, 0, 0).number == KB_ASKER_INVALID);
+    CHECK(kb_scan_rights(&scan, NULL, 0, 0, 0, 5).yes == 1 && kb_scan_rights(&scan, NULL, 0, 0, 0, 9).yes == 0);
+    CHECK(kb_scan_rights(&scan, NULL, 0, 3, 1, 12).yes == 0 && kb_scan_rights(&scan, NULL, 0, 1, 3, 12).yes == 1);
+    CHECK(kb_scan_rights(&scan, NULL, 0, 4, 0, 5).number == KB_POINT_OUTSIDE);
 }
 
 /* No number is cut to 32 bits on its way: 2^32 is not 0, and 2^32 + 1 not 1. */
@@ -140,8 +141,8 @@ void test_wide(void)
         CHECK(kb_scan_fresh(&scan, KB_ROWS, wide[i], others, 3) == KB_ORDER_TOO_LARGE);
         CHECK(kb_scan_lookup(&scan, wide[i], 0).number == KB_POINT_OUTSIDE);
         CHECK(kb_scan_lookup(&scan, 0, wide[i]).number == KB_POINT_OUTSIDE);
-        CHECK(kb_scan_rights(&scan, wide[i], 0, 5).number == KB_POINT_OUTSIDE);
-        CHECK(kb_scan_rights(&scan, 0, wide[i], 5).number == KB_POINT_OUTSIDE);
+        CHECK(kb_scan_rights(&scan, NULL, 0, wide[i], 0, 5).number == KB_POINT_OUTSIDE);
+        CHECK(kb_scan_rights(&scan, NULL, 0, 0, wide[i], 5).number == KB_POINT_OUTSIDE);
         CHECK(kb_scan_claim(&scan, wide[i], 0, 5) == KB_BLOCK_INVALID);
         CHECK(kb_scan_claim(&scan, 0, wide[i], 5) == KB_BLOCK_INVALID);
         CHECK(kb_scan_preview(&scan, wide[i], 0, 5).number == KB_BLOCK_INVALID);

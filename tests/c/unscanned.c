@@ -21,7 +21,8 @@ static void scan_seven(kb_scan *scan, uint32_t kind, uint32_t *slots, size_t slo
 static int unscanned_at(const kb_scan *scan, uint32_t column, uint32_t row)
 {
     kb_lookup_answer found = kb_scan_lookup(scan, column, row);
-    kb_rights_answer student = kb_scan_rights(scan, column, row, 12), nobody = kb_scan_rights(scan, column, row, 0);
+    kb_rights_answer student = kb_scan_rights(scan, NULL, 0, column, row, 12);
+    kb_rights_answer nobody = kb_scan_rights(scan, NULL, 0, column, row, 0);
     return found.number == KB_UNSCANNED && found.account == 0 && found.corner == 0 && found.size == 0
            && student.number == KB_UNSCANNED && student.yes == 0 && nobody.number == KB_UNSCANNED;
 }
@@ -37,7 +38,8 @@ void test_unscanned(void)
         CHECK(finds(&scan, 1, 1, 5, 0, 1) && finds(&scan, 2, 0, 0, 4, 0) && finds(&scan, 2, 1, 0, 6, 0));
         CHECK(unscanned_at(&scan, 3, 1) && unscanned_at(&scan, 0, 2) && unscanned_at(&scan, 3, 3));
         CHECK(kb_scan_lookup(&scan, 4, 1).number == KB_POINT_OUTSIDE);
-        CHECK(kb_scan_rights(&scan, 2, 0, 12).yes == 1 && kb_scan_rights(&scan, 2, 0, 64).number == KB_ASKER_INVALID);
+        CHECK(kb_scan_rights(&scan, NULL, 0, 2, 0, 12).yes == 1);
+        CHECK(kb_scan_rights(&scan, NULL, 0, 2, 0, 64).number == KB_ASKER_INVALID);
         CHECK(kb_scan_feed(&scan, nobodys, 1).taken == 1);
         CHECK(finds(&scan, 2, 0, 0, 4, 1) && finds(&scan, 3, 1, 0, 4, 1) && unscanned_at(&scan, 0, 2));
         CHECK(kb_scan_claim(&scan, 0, 1, 0) == KB_ACCEPTED && finds(&scan, 0, 0, 0, 0, 1));
@@ -153,8 +155,8 @@ static uint32_t make(int which, struct call *c, size_t *rest)
         return found.number;
     }
     if (which == RIGHTS) {
-        kb_rights_answer right = kb_rights(c->kind, c->order, c->pixels, c->tiles, c->slots, LENT, c->column, c->row,
-                                           c->account);
+        kb_rights_answer right = kb_rights(NULL, 0, c->kind, c->order, c->pixels, c->tiles, c->slots, LENT,
+                                           c->column, c->row, c->account);
         *rest = right.yes;
         return right.number;
     }
@@ -242,8 +244,8 @@ void test_unscanned_edges(void)
         /* Four pixels of order 2: the first row, or the north-western quarter. */
         CHECK(kb_lookup(kind, 2, 4, 0, NULL, 0, 3, 0).number == (kind == KB_ROWS ? KB_ACCEPTED : KB_UNSCANNED));
         CHECK(kb_lookup(kind, 2, 4, 0, NULL, 0, 0, 1).number == (kind == KB_ROWS ? KB_UNSCANNED : KB_ACCEPTED));
-        CHECK(kb_rights(kind, 10, all - 1, 0, NULL, 0, 1023, 1023, 1).number == KB_UNSCANNED);
-        CHECK(kb_rights(kind, 10, all, 0, NULL, 0, 1023, 1023, 1).yes == 1);
+        CHECK(kb_rights(NULL, 0, kind, 10, all - 1, 0, NULL, 0, 1023, 1023, 1).number == KB_UNSCANNED);
+        CHECK(kb_rights(NULL, 0, kind, 10, all, 0, NULL, 0, 1023, 1023, 1).yes == 1);
         CHECK(kb_claim(kind, 10, all - 1, 0, NULL, 0, 0, 10, 0).number == KB_UNSCANNED);
         CHECK(kb_claim(kind, 10, all, 0, NULL, 0, 0, 10, 0).number == KB_ACCEPTED);
         CHECK(kb_preview(kind, 10, all - 1, 0, NULL, 0, 0, 10, 7).number == KB_UNSCANNED);
@@ -318,7 +320,7 @@ static void lookups_agree(const kb_scan *scan, const struct plain *bed)
                 corner = block.corner, size = larger;
         }
         CHECK(finds(scan, at.column, at.row, bed->accounts[morton], corner, size));
-        CHECK(kb_scan_rights(scan, at.column, at.row, 7).number == KB_ACCEPTED);
+        CHECK(kb_scan_rights(scan, NULL, 0, at.column, at.row, 7).number == KB_ACCEPTED);
     }
 }
 

@@ -14,6 +14,7 @@ ghost use Rattle.scan.specs.Feed.{feedOf};
 ghost use Rattle.decode.specs.Decode.{decodeOf};
 ghost use Rattle.lookup.specs.Lookup.{lookupOf};
 ghost use Rattle.part.specs.Part.{partOf};
+ghost use Rattle.table.specs.Load.{loadOf};
 ghost use Rattle.rights.specs.Rights.{rightsOf};
 ghost use Rattle.claim.specs.declared.Claimed.{Claimed};
 ghost use Rattle.claim.specs.Claim.{claimOf};
@@ -239,7 +240,15 @@ pub extern "C" fn kb_part(order: u32, tiles: usize, slots: &[u32], corner: u32, 
 }
 
 #[no_mangle]
+pub extern "C" fn kb_load(file: &[u8], table: &mut [u8]) -> u32
+    ensures { λ r. ⌜ Gives r (now (table .exit)) (loadOf (now (file .entry)) (now (table .entry))) ⌝ }
+{
+    table::load(file, table)
+}
+
+#[no_mangle]
 pub extern "C" fn kb_rights(
+    table: &[u8],
     kind: u32,
     order: u32,
     pixels: u32,
@@ -249,10 +258,11 @@ pub extern "C" fn kb_rights(
     row: u32,
     account: u8,
 ) -> Right
-    ensures { λ r. ⌜ r ≡ rightsOf (scanOf (kindOf kind) order pixels tiles) (now (slots .entry)) column row account ⌝ }
+    ensures { λ r. ⌜ r ≡ rightsOf (now (table .entry)) (scanOf (kindOf kind) order pixels tiles) (now (slots .entry))
+        column row account ⌝ }
 {
     let scan = scan_of(kind, order, pixels, tiles);
-    rights::rights(scan, slots, column, row, account)
+    rights::rights(table, scan, slots, column, row, account)
 }
 
 #[no_mangle]

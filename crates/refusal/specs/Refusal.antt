@@ -106,3 +106,11 @@ positionInvalid = 53
 -- a roster entry not above the one ahead of it
 abbrev pub rosterUnsorted : ℕ
 rosterUnsorted = 54
+
+-- a file of a table of rights with a wrong count, a wrong length or a byte above 1; a table in force of a wrong length
+abbrev pub tableMalformed : ℕ
+tableMalformed = 55
+
+-- a table of rights in which a row does not say yes to its own pixels, or lacks a yes of the row below it
+abbrev pub tableUnsound : ℕ
+tableUnsound = 56

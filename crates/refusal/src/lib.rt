@@ -52,3 +52,7 @@ pub const UNSCANNED: u32 = 52;
 pub const POSITION_INVALID: u32 = 53;
 
 pub const ROSTER_UNSORTED: u32 = 54;
+
+pub const TABLE_MALFORMED: u32 = 55;
+
+pub const TABLE_UNSOUND: u32 = 56;

@@ -1,7 +1,7 @@
 -- Laws of placement rights.
 --     RightsComputed   the worked lines, computed
---     TableLaws        the table by the numbers of its rows and columns
 --     RightsLaws       the offered call by lookup's answer
+--     Promised         what the call promises of tables, proved
 pub mod RightsComputed
-pub mod TableLaws
 pub mod RightsLaws
+pub mod Promised

@@ -1,8 +1,6 @@
-// Placement rights: which account may place at which pixel, by a table of classes and kinds of pixels.
+// Placement rights: which account may place at which pixel, by lookup's answer and the table of rights.
 ghost use mathlib.Core.Path.{_≡_};
-ghost use Prim.Native.Nat.{_<_};
-ghost use Rattle.rights.specs.Rights.{classOf, pixelKind, mayPlace, rightsOf};
-ghost use Rattle.rights.specs.Rows.{rowOf};
+ghost use Rattle.rights.specs.Rights.{rightsOf};
 
 // The rights call's answer.
 #[repr(C)]
@@ -11,71 +9,18 @@ pub struct Right {
     pub yes: bool,
 }
 
-// The rows of the table. Accounts up to LAST_STAFF are staff, from there up to LAST_STUDENT students, the others
-// guests.
-const STAFF: usize = 0;
-
-const STUDENT: usize = 1;
-
-const GUEST: usize = 2;
-
-const LAST_STAFF: u8 = 7;
-
-const LAST_STUDENT: u8 = 47;
-
-// Its columns: the asking account's own pixel, nobody's, another guest's, another student's, another staff member's.
-const OWN: usize = 0;
-
-const NOBODYS: usize = 1;
-
-const ANOTHER_STAFFS: usize = 4;
-
-const TABLE: [[bool; 5]; 3] = [
-    [true, true, true, true, false],
-    [true, true, false, false, false],
-    [true, false, false, false, false],
-];
-
-// The row of an account's class.
-fn class_of(account: u8) -> usize
-    ensures { λ r. ⌜ r ≡ rowOf (classOf account) ⌝ }
-{
-    if account <= LAST_STAFF {
-        return STAFF;
-    }
-    if account <= LAST_STUDENT {
-        return STUDENT;
-    }
-    GUEST
-}
-
-// The column of a pixel for the asking account: those of others' pixels go by the holder's class, from the last column
-// on.
-fn pixel_kind(asking: u8, holder: u8) -> usize
-    ensures { λ r. ⌜ r ≡ pixelKind asking holder ⌝ }
-{
-    if asking == holder {
-        return OWN;
-    }
-    if holder == 0 {
-        return NOBODYS;
-    }
-    ANOTHER_STAFFS - class_of(holder)
-}
-
-// The table's answer for the asking account at a pixel of the account `holder`.
-fn may_place(asking: u8, holder: u8) -> bool
-    ensures { λ r. ⌜ r ≡ mayPlace asking holder ⌝ }
-{
-    let class = class_of(asking);
-    let kind = pixel_kind(asking, holder);
-    TABLE[class][kind]
-}
-
-// The offered call: may the asking account place at the pixel in a column and a row? Refused, the first refusal and no.
-// It rests on lookup's answer: first lookup's refusals, then 34.
-pub fn rights(scan: bed::Scan, slots: &[u32], column: u32, row: u32, asking: u8) -> Right
-    ensures { λ r. ⌜ r ≡ rightsOf scan (now (slots .entry)) column row asking ⌝ }
+// The offered call: may the asking account place at the pixel in a column and a row, by the table that counts where
+// `table` is handed in? Refused, the first refusal and no. It rests on lookup's answer: first lookup's refusals, then
+// 34.
+pub fn rights(
+    table: &[u8],
+    scan: bed::Scan,
+    slots: &[u32],
+    column: u32,
+    row: u32,
+    asking: u8,
+) -> Right
+    ensures { λ r. ⌜ r ≡ rightsOf (now (table .entry)) scan (now (slots .entry)) column row asking ⌝ }
 {
     let found = lookup::lookup(scan, slots, column, row);
     if found.number != refusal::ACCEPTED {
@@ -90,6 +35,6 @@ pub fn rights(scan: bed::Scan, slots: &[u32], column: u32, row: u32, asking: u8)
     }
     Right {
         number: refusal::ACCEPTED,
-        yes: may_place(asking, found.account),
+        yes: table::may_place(table, asking, found.account),
     }
 }

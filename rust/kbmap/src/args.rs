@@ -3,7 +3,7 @@
 use crate::failure::Failure;
 use crate::input::Source;
 use crate::output::Target;
-use kingletbed::Choice;
+use kingletbed::{Choice, Table};
 use std::ffi::OsString;
 use std::fmt::Display;
 
@@ -18,6 +18,9 @@ pub enum Command {
     Check { file: Source },
     Show { file: Source },
     At { file: Source, place: Place },
+    Rights { file: Source, place: Place, account: u32, table: Option<Source> },
+    Table { file: Source },
+    MakeTable { bytes: [u8; Table::LENGTH], out: Target },
     Scan { image: Source, out: Target },
     Decode { file: Source, out: Target, plain: bool },
     Claim { file: Source, out: Option<Target>, claim: Claim<Place> },
@@ -78,6 +81,8 @@ pub fn parse(args: impl IntoIterator<Item = OsString>) -> Result<Command, Failur
         Some("check") => Command::Check { file: line.source("FILE")? },
         Some("show") => Command::Show { file: line.source("FILE")? },
         Some("at") => Command::At { file: line.source("FILE")?, place: line.place()? },
+        Some("rights") => line.rights()?,
+        Some("table") => line.table()?,
         Some("scan") => Command::Scan { image: line.source("IMAGE")?, out: line.target()? },
         Some("decode") => {
             Command::Decode { file: line.source("FILE")?, out: line.target()?, plain: line.flag("--plain") }
@@ -96,7 +101,7 @@ pub fn parse(args: impl IntoIterator<Item = OsString>) -> Result<Command, Failur
 
 /// The options that are flags, and those that another argument belongs to.
 const FLAGS: [&str; 6] = ["--help", "--version", "--plain", "--svg", "--html", "--colour"];
-const VALUED: [&str; 2] = ["-o", "--width"];
+const VALUED: [&str; 3] = ["-o", "--table", "--width"];
 
 /// The arguments not looked at yet.
 struct Line {
@@ -178,6 +183,40 @@ impl Line {
 
     fn place(&mut self) -> Result<Place, Failure> {
         Ok(Place { column: self.coordinate("COLUMN")?, row: self.coordinate("ROW")? })
+    }
+
+    fn rights(&mut self) -> Result<Command, Failure> {
+        let (file, place, account) = (self.source("FILE")?, self.place()?, self.number("ACCOUNT")?);
+        let table = self.value("--table").map(Source::of);
+        if (&file, &table) == (&Source::Standard, &Some(Source::Standard)) {
+            return Err(Failure::usage("FILE and TABLE cannot both be standard input"));
+        }
+        Ok(Command::Rights { file, place, account, table })
+    }
+
+    /// One is made of three words, and goes somewhere.
+    fn table(&mut self) -> Result<Command, Failure> {
+        let makes = self.words.len() == 3 || self.values.iter().any(|&(option, _)| option == "-o");
+        if !makes {
+            return Ok(Command::Table { file: self.source("TABLE")? });
+        }
+        let mut bytes = [0; Table::LENGTH];
+        for (what, row) in ["STAFF", "STUDENT", "GUEST"].into_iter().zip(bytes.chunks_mut(Table::LENGTH / 3)) {
+            self.row(what, row)?;
+        }
+        Ok(Command::MakeTable { bytes, out: self.target()? })
+    }
+
+    /// A row of a table in digits. The library says which digits it takes.
+    fn row(&mut self, what: &str, row: &mut [u8]) -> Result<(), Failure> {
+        let word = self.word(what)?;
+        let digits = word.as_encoded_bytes();
+        if digits.len() != row.len() || !digits.iter().all(u8::is_ascii_digit) {
+            let text = word.to_string_lossy();
+            return Err(Failure::usage(format!("{what} is five digits, 1 for yes and 0 for no, not {text}")));
+        }
+        row.iter_mut().zip(digits).for_each(|(byte, digit)| *byte = digit - b'0');
+        Ok(())
     }
 
     fn claim(&mut self, account: bool) -> Result<Command, Failure> {

@@ -6,13 +6,15 @@ mod check;
 mod combine;
 mod draw;
 mod raster;
+mod table;
 
-pub use ask::{at, show};
+pub use ask::{at, rights, show};
 pub use change::{claim, preview};
 pub use check::check;
 pub use combine::combine;
 pub use draw::draw;
 pub use raster::{decode, scan};
+pub use table::{make_table, show_table};
 
 use crate::args::{Coordinate, Place};
 use crate::failure::{note, Failure};
@@ -20,8 +22,8 @@ use crate::input::Source;
 use crate::lock::same_file;
 use crate::map::Map;
 use crate::output::{print, Target};
-use crate::words::visible;
-use kingletbed::{mils, Pixel};
+use crate::words::{class, visible};
+use kingletbed::{mils, Account, Pixel};
 use std::path::Path;
 
 /// What is made of a file must not take its place.
@@ -52,6 +54,14 @@ fn pixel(map: &Map, place: &Place) -> Result<Pixel, Failure> {
         }),
     };
     Ok(Pixel { column: number("COLUMN", &place.column)?, row: number("ROW", &place.row)? })
+}
+
+/// "account 9's, student".
+fn whose(account: Account) -> String {
+    match account {
+        Account::NOBODY => "nobody's".to_owned(),
+        Account(number) => format!("account {number}'s, {}", class(account)),
+    }
 }
 
 /// Tells what was done: on standard output, or on standard error if the result went there.

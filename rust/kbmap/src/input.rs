@@ -8,7 +8,7 @@ use std::fs::File;
 use std::io::{self, Read};
 use std::path::PathBuf;
 
-/// More bytes than any map file or picture of a bed has; a longer input is not read to its end.
+/// More bytes than any map file, table or picture of a bed has; a longer input is not read to its end.
 const MOST: u64 = 64 << 20;
 
 /// Standard input, or a file.
@@ -60,7 +60,7 @@ impl Source {
     fn checked(&self, bytes: io::Result<Vec<u8>>) -> Result<Vec<u8>, Failure> {
         let bytes = bytes.map_err(|error| Failure::trouble(self.name(), &error))?;
         if bytes.len() as u64 > MOST {
-            let reason = format!("longer than {} MB: no map file and no picture of a bed is", MOST >> 20);
+            let reason = format!("longer than {} MB: no map file, table or picture of a bed is", MOST >> 20);
             return Err(Failure::refused(self.name(), reason));
         }
         Ok(bytes)

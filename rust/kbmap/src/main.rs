@@ -1,5 +1,5 @@
-//! kbmap: checks, shows, changes, combines and draws map files of a machine's bed. All work on maps is the library's;
-//! this program reads, writes and tells.
+//! kbmap: checks, shows, changes, combines and draws map files of a machine's bed, shows and makes tables of rights,
+//! and says who may place where. All work on maps and tables is the library's; this program reads, writes and tells.
 
 #![forbid(unsafe_code)]
 
@@ -18,6 +18,7 @@ mod page;
 mod pgm;
 mod progress;
 mod svg;
+mod table;
 mod terminal;
 mod words;
 
@@ -42,6 +43,9 @@ fn obey(command: Command) -> Result<(), Failure> {
         Command::Check { file } => commands::check(&file),
         Command::Show { file } => commands::show(file),
         Command::At { file, place } => commands::at(file, &place),
+        Command::Rights { file, place, account, table } => commands::rights(file, &place, account, table.as_ref()),
+        Command::Table { file } => commands::show_table(&file),
+        Command::MakeTable { bytes, out } => commands::make_table(&bytes, &out),
         Command::Scan { image, out } => commands::scan(&image, &out),
         Command::Decode { file, out, plain } => commands::decode(file, &out, plain),
         Command::Preview { file, claim } => commands::preview(file, &claim),

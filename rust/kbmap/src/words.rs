@@ -1,14 +1,15 @@
 //! Words for people: classes, counts, shares, and where a block lies.
 
-use kingletbed::{raw, Account, Block};
+use kingletbed::{raw, Account, Block, Table};
 
-/// The class of an account, as its rights tell it: a guest may not place on nobody's pixel, and of the others only
-/// staff may place on a guest's. They are asked on beds of one pixel, which is scanned.
+/// The class of an account, as its rights by the old table tell it: a guest may not place on nobody's pixel, and of the
+/// others only staff may place on a guest's. They are asked on beds of one pixel, which is scanned.
 pub fn class(account: Account) -> &'static str {
     let (kind, order, pixels) = (0, 0, 1);
     let mut guests = [0];
     let claimed = raw::claim(kind, order, pixels, 0, &mut guests, 0, 0, Account::HIGHEST.0);
-    let may = |tiles, slots: &[u32]| raw::rights(kind, order, pixels, tiles, slots, 0, 0, account.0).yes != 0;
+    let table = Table::OLD.bytes();
+    let may = |tiles, slots: &[u32]| raw::rights(table, kind, order, pixels, tiles, slots, 0, 0, account.0).yes != 0;
     match (may(0, &[]), may(claimed.tiles, &guests)) {
         (false, _) => "guest",
         (true, false) => "student",

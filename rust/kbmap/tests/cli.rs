@@ -74,7 +74,7 @@ fn check_refuses_other_lengths() {
     assert!(long.text().ends_with("\n  byte 32: the file should end here, and 1 byte follows\n"));
     assert!(scratch.fed("check -", b"").text().ends_with("\n  the file is empty\n"));
     let endless = scratch.kbmap("check /dev/zero");
-    assert_eq!(endless, refused("kbmap: /dev/zero: longer than 64 MB: no map file and no picture of a bed is\n"));
+    assert_eq!(endless, refused("kbmap: /dev/zero: longer than 64 MB: no map file, table or picture of a bed is\n"));
 }
 
 /// Bed M's file with the two entries of its roster turned round, and with the first one twice.

@@ -72,7 +72,8 @@ fn fails(answer: &Answer, words: &str) {
 fn hard_links() {
     let scratch = Scratch::with_bed();
     fs::hard_link(scratch.path.join("bed.map"), scratch.path.join("also.map")).unwrap();
-    for line in ["claim bed.map 0 0 7", "release also.map 0 0", "claim bed.map 0 0 7 -o also.map"] {
+    let table = "table 11110 11000 10000 -o also.map";
+    for line in ["claim bed.map 0 0 7", "release also.map 0 0", "claim bed.map 0 0 7 -o also.map", table] {
         fails(&scratch.kbmap(line), ".map: the file has 2 names (hard links), and the others would keep what it was");
     }
     assert_eq!((scratch.get("bed.map"), scratch.get("also.map")), (BED.to_vec(), BED.to_vec()));

@@ -39,6 +39,9 @@ fn unreadable() {
         "release no.map 0 0",
         "inside no.map bed.map -o x",
         "outside bed.map no.map -o x",
+        "table no.map",
+        "rights no.map 0 0 9",
+        "rights bed.map 0 0 9 --table no.map",
     ] {
         assert_eq!(trouble(&scratch, line), "kbmap: no.map: No such file or directory\n");
     }
@@ -81,6 +84,7 @@ fn full_disk() {
         "decode bed.map -o /dev/full",
         "claim bed.map 0 2 7 -o /dev/full",
         "outside bed.map bed.map -o /dev/full",
+        "table 11110 11000 10000 -o /dev/full",
         "draw bed.map --svg -o /dev/full",
         "draw bed.map --html -o /dev/full",
     ] {
@@ -92,6 +96,8 @@ fn full_disk() {
         "show bed.map",
         "at bed.map 0 0",
         "preview bed.map 0 0 7",
+        "rights bed.map 0 0 7",
+        "table 11110 11000 10000 -o -",
         "decode bed.map -o -",
         "draw bed.map",
     ] {
@@ -138,6 +144,7 @@ fn closed_pipe() {
         "show -",
         "at - 0 0",
         "preview - 0 0 7",
+        "rights - 0 0 7",
         "decode - -o -",
         "release - 0 0",
         "inside - bed.map -o -",

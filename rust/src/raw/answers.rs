@@ -1,5 +1,5 @@
-//! The answers of the raw calls, field by field as the C header has them. `kb_check` and `kb_decode` answer the
-//! number alone, the fields of a word come alone too.
+//! The answers of the raw calls, field by field as the C header has them. `kb_check`, `kb_decode` and `kb_load` answer
+//! the number alone, the fields of a word come alone too.
 
 /// `kb_fresh_answer`.
 #[repr(C)]

@@ -1,5 +1,5 @@
-//! The raw calls that are handed no map: extents, Morton numbers, blocks, points, the fields of a word, and positions
-//! in mils. Why they are safe stands with the others.
+//! The raw calls that are handed no map: extents, Morton numbers, blocks, points, the fields of a word, positions in
+//! mils, and the load of a table of rights. Why they are safe stands with the others.
 
 use super::{Around, Extent, MilsH, MilsPixel, MilsText, Morton, Point};
 
@@ -15,6 +15,7 @@ extern "C" {
     fn kb_mils_pixel(order: u32, text: *const u8, text_length: usize) -> MilsPixel;
     fn kb_mils_h(order: u32, pixel: u32) -> MilsH;
     fn kb_mils_text(order: u32, pixel: u32, text: *mut u8, text_length: usize) -> MilsText;
+    fn kb_load(file: *const u8, file_length: usize, table: *mut u8, table_length: usize) -> u32;
 }
 
 /// `kb_extent`. 2^order and 4^order: the columns and the pixels of a bed of an order, or of a block of a size.
@@ -141,6 +142,23 @@ pub fn mils_text(order: u32, pixel: u32, text: &mut [u8]) -> MilsText {
     unsafe { kb_mils_text(order, pixel, text.as_mut_ptr(), text.len()) }
 }
 
+/// `kb_load`. Loads a table of rights from a file, a count of 15 and 15 bytes, to the table in force, 15 bytes.
+/// Refused, that stays as it was, whatever it held.
+///
+/// ```
+/// use kingletbed::raw;
+/// let mut table = [0; 15];
+/// assert_eq!(raw::load(&[15, 1, 1, 1, 1, 0, 1, 1, 0, 0, 0, 1, 1, 0, 0, 0], &mut table), 0);
+/// assert_eq!(table, [1, 1, 1, 1, 0, 1, 1, 0, 0, 0, 1, 1, 0, 0, 0]);
+/// assert_eq!(raw::load(&[14; 15], &mut table), 55);
+/// assert_eq!(raw::load(&[15, 1, 1, 1, 1, 0, 1, 0, 0, 0, 0, 1, 1, 0, 0, 0], &mut table), 56);
+/// assert_eq!(table, [1, 1, 1, 1, 0, 1, 1, 0, 0, 0, 1, 1, 0, 0, 0]);
+/// ```
+#[must_use]
+pub fn load(file: &[u8], table: &mut [u8]) -> u32 {
+    unsafe { kb_load(file.as_ptr(), file.len(), table.as_mut_ptr(), table.len()) }
+}
+
 #[cfg(test)]
 mod tests {
     use super::*;
@@ -154,6 +172,9 @@ mod tests {
             let put = |number| MilsText { number, length: 0 };
             assert_eq!(kb_mils_text(10, 1023, null_mut(), 0), put(26));
             assert_eq!(kb_mils_text(10, 1024, null_mut(), 0), put(31));
+            assert_eq!(kb_load(null_mut(), 0, null_mut(), 0), 55);
+            assert_eq!(kb_load(null_mut(), 0, [0; 15].as_mut_ptr(), 15), 55);
+            assert_eq!(kb_load([1; 16].as_ptr(), 16, null_mut(), 0), 55);
         }
     }
 }

@@ -3,6 +3,7 @@
 
 use crate::pair::Count;
 use crate::plain::Record;
+use crate::tables::{OLD, UNLOADABLE, WORKSHOP};
 use std::collections::BTreeSet;
 
 fn word(corner: u32, size: u32, account: u32) -> u32 {
@@ -52,6 +53,25 @@ pub fn in_order(count: &mut Count) {
         by_kind(count, kind);
     }
     positions(count);
+    loads(count);
+}
+
+/// A load: 55 in each of its ways, with a table behind it that is unsound as well, and then 56.
+fn loads(count: &mut Count) {
+    let unsound = [15, 1, 1, 1, 1, 0, 1, 1, 0, 0, 0, 0, 1, 0, 0, 0];
+    let file = |at: usize, byte: u8| {
+        let mut file = unsound.to_vec();
+        file[at] = byte;
+        file
+    };
+    for bad in [vec![], vec![15], unsound[..15].to_vec(), [&unsound[..], &[0]].concat(), file(0, 14), file(15, 2)] {
+        assert_eq!(count.load(&bad, &mut vec![7; 15]), 55);
+    }
+    for lent in [0, 14, 16] {
+        assert_eq!(count.load(&unsound, &mut vec![7; lent]), 55);
+    }
+    assert_eq!(count.load(&unsound, &mut vec![7; 15]), 56);
+    assert_eq!(count.load(&file(11, 1), &mut vec![7; 15]), 0);
 }
 
 /// Positions in mils, the way there and the way back.
@@ -76,7 +96,7 @@ fn by_kind(count: &mut Count, kind: u32) {
     let at = (five, &[0, 0, 0]);
     for (column, row, number) in [(3, 0, rows), (1, 1, morton), (2, 0, 0), (2, 1, 52)] {
         assert_eq!(count.lookup(at, column, row).0, number);
-        assert_eq!(count.rights(at, column, row, 9).0, number);
+        assert_eq!(count.rights(&OLD, at, column, row, 9).0, number);
     }
     for (corner, size, number) in [(5, 0, rows), (3, 0, morton), (0, 1, morton), (4, 0, 0), (4, 1, 52)] {
         assert_eq!(count.preview(at, corner, size, 9).0, number);
@@ -92,7 +112,7 @@ fn broken(count: &mut Count, number: u32, record: Record, slots: &[u32]) {
     assert_eq!(count.open(at), number);
     assert_eq!(count.feed(record, &mut slots.to_vec(), &[64]).0, number);
     assert_eq!(count.lookup(at, 4, 4).0, number);
-    assert_eq!(count.rights(at, 4, 4, 0).0, number);
+    assert_eq!(count.rights(&[2; 3], at, 4, 4, 0).0, number);
     assert_eq!(count.claim(record, &mut slots.to_vec(), 1, 1, 64), (number, 0));
     assert_eq!(count.preview(at, 1, 1, 64), (number, 0));
     assert_eq!(count.write(at, &[]).0, number);
@@ -104,10 +124,16 @@ fn behind(count: &mut Count, record: Record, slots: &[u32]) {
     let (at, whole) = ((record, slots), Record { pixels: 16, ..record });
     for (column, row, number) in [(4, 0, 31), (0, 4, 31), (u32::MAX, u32::MAX, 31), (3, 3, 52), (0, 2, 52)] {
         assert_eq!(count.lookup(at, column, row).0, number);
-        assert_eq!(count.rights(at, column, row, 0).0, number);
+        assert_eq!(count.rights(&WORKSHOP, at, column, row, 0).0, number);
     }
-    assert_eq!(count.rights(at, 1, 1, 0).0, 34);
-    assert_eq!(count.rights(at, 1, 1, 64).0, 34);
+    // A table that no load would accept is no refusal, and hides none.
+    for table in UNLOADABLE {
+        assert_eq!(count.rights(table, at, 4, 0, 0).0, 31);
+        assert_eq!(count.rights(table, at, 3, 3, 0).0, 52);
+        assert_eq!(count.rights(table, at, 1, 1, 0).0, 34);
+        assert_eq!(count.rights(table, at, 1, 1, 64).0, 34);
+        assert_eq!(count.rights(table, at, 1, 1, 5), (0, true));
+    }
     let claims = [(1, 1, 64, 32), (0, 3, 64, 32), (16, 0, 0, 32), (0, 2, 64, 52), (15, 0, 64, 52), (15, 0, 0, 52)];
     for (corner, size, account, number) in claims.into_iter().chain([(0, 0, 64, 24), (0, 0, 9, 25), (3, 0, 0, 25)]) {
         assert_eq!(count.preview(at, corner, size, account), (number, 0));
@@ -125,7 +151,7 @@ const LIST: &[u32] = &[1, 2, 11, 12, 13, 14, 15, 16];
 const SCAN: &[u32] = &[21, 22];
 
 /// The refusals of each call.
-const CALLS: [(&str, &[&[u32]]); 23] = [
+const CALLS: [(&str, &[&[u32]]); 24] = [
     ("check", &[LIST]),
     ("fresh", &[&[1]]),
     ("feed", &[LIST, SCAN, &[23, 24, 25]]),
@@ -146,6 +172,7 @@ const CALLS: [(&str, &[&[u32]]); 23] = [
     ("mils_h", &[&[1, 31]]),
     ("mils_text", &[&[1, 31, 26]]),
     ("at_mils", &[&[1, 53]]),
+    ("load", &[&[55, 56]]),
     ("from_scan", &[LIST, SCAN]),
     ("shown", &[LIST, SCAN, &[32]]),
     ("account_of", &[LIST, SCAN, &[32, 52]]),

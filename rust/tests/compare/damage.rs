@@ -5,6 +5,7 @@ use crate::pair::{At, Count};
 use crate::plain::{area, file as plain_file, Record, Tile};
 use crate::random::{palette, Built, Random};
 use crate::sequences::{ask, block_near};
+use crate::tables;
 
 /// A record and a list that may be bad.
 struct Bad {
@@ -54,8 +55,9 @@ pub fn list_case(random: &mut Random, count: &mut Count) {
     let order = random.pick(&[0, 1, 2, 2, 3, 3, 4, 5]);
     let mut bad = Bad::random(random, order);
     count.check(bad.at());
+    let table = tables::any(random);
     for _ in 0..4 {
-        ask(random, count, bad.at());
+        ask(random, count, bad.at(), &table);
     }
     let fed: Vec<u8> = (0..random.below(6)).map(|_| random.below(66) as u8).collect();
     count.feed(bad.record, &mut bad.slots.clone(), &fed);

@@ -10,6 +10,7 @@ use crate::plain::tally::Tally;
 use crate::plain::{area, left, Record};
 use crate::random::{palette, Built, Random};
 use crate::sequences::{block, block_near, front};
+use crate::tables;
 use kingletbed::raw;
 
 const ORDER: u32 = 10;
@@ -115,7 +116,7 @@ fn others(random: &mut Random, count: &mut Count, raster: &[u8], words: &[u32]) 
         assert_eq!((number, named.account), (0, raster[row * SIDE + column]));
         let near = (column as u32 ^ random.below(16) as u32, row as u32 ^ random.below(16) as u32);
         count.lookups(at, (column as u32, row as u32), near);
-        count.rights(at, column as u32, row as u32, random.between(1, 63) as u8);
+        count.rights(&tables::any(random), at, column as u32, row as u32, random.between(1, 63) as u8);
         let (corner, size) = block(random, ORDER);
         count.part(at, corner, size);
         count.shown(at, corner, size);
@@ -151,7 +152,7 @@ fn unfinished(random: &mut Random, count: &mut Count, raster: &[u8]) {
     let mut living = Living::of_scan(record, &slots);
     count.lookups(living.at(), front(random, record), front(random, record));
     let (column, row) = front(random, record);
-    count.rights(living.at(), column, row, random.between(1, 63) as u8);
+    count.rights(&tables::any(random), living.at(), column, row, random.between(1, 63) as u8);
     assert_eq!(count.write(living.at(), &[0xaa; 9]).0, 52);
     for _ in 0..2 {
         let (corner, size) = block_near(random, record);

@@ -6,6 +6,7 @@ use crate::living::Living;
 use crate::pair::Count;
 use crate::plain::bed::Bed;
 use crate::plain::{area, left, pixel, Record, Tile};
+use crate::tables::{OLD, UNLOADABLE, WORKSHOP};
 
 /// Orders, and numbers that would be good orders if they were cut down.
 const ORDERS: [u32; 13] = [0, 1, 2, 3, 9, 10, 11, 12, 255, 256, 258, 1 << 16, u32::MAX];
@@ -35,7 +36,7 @@ pub fn all(count: &mut Count) {
             count.lookup((order, tiles, &slots), 3, 1);
             count.part((order, tiles, &slots), 4, 1);
             count.shown((order, tiles, &slots), 12, 0);
-            count.rights((order, tiles, &slots), 3, 1, 9);
+            count.rights(&OLD, (order, tiles, &slots), 3, 1, 9);
             count.decode((order, tiles, &slots), &[0xaa; 16]);
             count.write((order, tiles, &slots), &[0xaa; 40]);
             count.claim(Record::whole(order, tiles), &mut slots.clone(), 4, 1, 0);
@@ -69,12 +70,14 @@ fn points(count: &mut Count, order: u32, words: &[u32]) {
     for column in ends {
         for row in ends {
             count.lookup(at, column, row);
-            count.rights(at, column, row, 0);
-            count.rights(at, column, row, 8);
+            count.rights(&OLD, at, column, row, 0);
+            count.rights(&WORKSHOP, at, column, row, 8);
         }
     }
     for account in ACCOUNTS {
-        count.rights(at, side - 1, 0, account);
+        for table in UNLOADABLE.into_iter().chain([&OLD[..], &WORKSHOP]) {
+            count.rights(table, at, side - 1, 0, account);
+        }
     }
 }
 
@@ -149,7 +152,7 @@ fn on_record(count: &mut Count, record: Record, words: &[u32]) {
     for (column, row) in [(0, 0), (side - 1, side - 1), (0, side / 2), (side, 0)] {
         count.lookup(at, column, row);
     }
-    count.rights(at, side - 1, side - 1, 9);
+    count.rights(&WORKSHOP, at, side - 1, side - 1, 9);
     for (corner, size) in [(0, record.order), (end - 1, 0), (end / 4, 0)] {
         let mut slots = words.to_vec();
         slots.resize(words.len() + 4, 0x1234);

@@ -25,6 +25,7 @@ mod random;
 mod rosters;
 mod scans;
 mod sequences;
+mod tables;
 mod worked;
 
 use pair::Count;
@@ -43,20 +44,21 @@ struct Group {
 }
 
 /// Once, first.
-const ONCE: [Group; 9] = [
+const ONCE: [Group; 10] = [
     Group { name: "worked", case: |_, count| worked::lines(count), round: 1 },
     Group { name: "checks", case: |_, count| checks::in_order(count), round: 1 },
     Group { name: "limits", case: |_, count| limits::all(count), round: 1 },
     Group { name: "rosters", case: |_, count| rosters::all(count), round: 1 },
     Group { name: "every-point", case: |_, count| points::all(count), round: 1 },
     Group { name: "every-position", case: |_, count| mils::all(count), round: 1 },
+    Group { name: "every-table", case: |_, count| tables::all(count), round: 1 },
     Group { name: "every-feed", case: bands::all, round: 1 },
     Group { name: "every-word", case: damage::every_word, round: 1 },
     Group { name: "patterns", case: large::patterns, round: 1 },
 ];
 
 /// Round after round until the time is over.
-const ROUNDS: [Group; 11] = [
+const ROUNDS: [Group; 12] = [
     Group { name: "sequences", case: sequences::case, round: 1000 },
     Group { name: "scans", case: scans::case, round: 500 },
     Group { name: "bands", case: bands::case, round: 100 },
@@ -66,6 +68,7 @@ const ROUNDS: [Group; 11] = [
     Group { name: "pairs", case: damage::pair_case, round: 2000 },
     Group { name: "points", case: points::case, round: 5000 },
     Group { name: "positions", case: mils::case, round: 5000 },
+    Group { name: "tables", case: tables::case, round: 2000 },
     Group { name: "equal", case: equal::case, round: 1000 },
     Group { name: "large", case: large::case, round: 1 },
 ];

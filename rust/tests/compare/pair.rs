@@ -6,6 +6,7 @@
 
 use crate::lent::{Brief, Lent};
 use crate::plain::{area, list, Record, Tile};
+use crate::tables::table_of;
 use kingletbed::{raw, Account, Bed, Block, Found, Kind, Pixel, Refusal};
 use std::collections::BTreeMap;
 use std::fmt::Debug;
@@ -261,14 +262,22 @@ impl Count {
         (number, tiles)
     }
 
-    pub fn rights<'a>(&mut self, at: impl Into<At<'a>>, column: u32, row: u32, asking: u8) -> (u32, bool) {
-        let at = at.into();
-        let (given, Record { kind, order, pixels, tiles }) = ((at, column, row, asking), at.record);
-        let plain = list::rights(at.record, at.slots, column, row, asking);
-        let answer = raw::rights(kind, order, pixels, tiles, at.slots, column, row, asking);
+    /// Rights by a table, whatever it is. The wrapper has no table but such as count.
+    pub fn rights<'a>(
+        &mut self,
+        table: &[u8],
+        at: impl Into<At<'a>>,
+        column: u32,
+        row: u32,
+        asking: u8,
+    ) -> (u32, bool) {
+        let (at, held) = (at.into(), table_of(table));
+        let (given, Record { kind, order, pixels, tiles }) = ((table, at, column, row, asking), at.record);
+        let plain = list::rights(table, at.record, at.slots, column, row, asking);
+        let answer = raw::rights(table, kind, order, pixels, tiles, at.slots, column, row, asking);
         same("rights", &given, (answer.number, answer.yes), (plain.0, u8::from(plain.1)));
         for bed in at.beds() {
-            let wrapped = bed.and_then(|bed| bed.rights(Pixel { column, row }, Account(asking)));
+            let wrapped = bed.and_then(|bed| bed.rights(&held, Pixel { column, row }, Account(asking)));
             same("rights on a bed", &given, flat(wrapped), some(plain.0, plain.1));
         }
         self.add("rights", plain.0);

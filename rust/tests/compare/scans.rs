@@ -7,6 +7,7 @@ use crate::plain::bed::block_in;
 use crate::plain::{area, morton, pixel, Record};
 use crate::random::{palette, Built, Random};
 use crate::sequences::{block_near, front};
+use crate::tables;
 
 /// Whose each pixel is, row after row; nothing where the camera has not been.
 struct Known {
@@ -99,7 +100,8 @@ fn ask(random: &mut Random, count: &mut Count, living: &Living, known: &Known) {
         assert_eq!((number, named.account), pixel.map_or((52, 0), |account| (0, account)), "a lookup");
         let inside = known.block(named.corner as u32, named.size);
         assert!(number != 0 || inside.iter().all(|&at| known.pixels[at] == pixel), "the block named");
-        assert_eq!(count.rights(at, column, row, 3).0, number, "rights where a lookup is answered");
+        let table = tables::any(random);
+        assert_eq!(count.rights(&table, at, column, row, 3).0, number, "rights where a lookup is answered");
     }
     let (number, file) = count.write(at, &vec![0x5a; 6 + 9 * living.slots.len()]);
     assert_eq!(number, if known.whole() { 0 } else { 52 }, "a file is of a finished scan");

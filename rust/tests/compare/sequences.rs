@@ -8,13 +8,15 @@ use crate::pair::{At, Count};
 use crate::plain::bed::Bed;
 use crate::plain::{area, file, left, morton, pixel, Record, Tile};
 use crate::random::{palette, Built, Random};
+use crate::tables::{self, InForce};
 
-/// The bed that lives, with its record and slots, and the plain bed once a call was accepted.
+/// The bed that lives, with its record and slots, and the plain bed once a call was accepted; and the table in force.
 struct State {
     living: Living,
     bed: Option<Bed>,
     /// Accounts in the order of the scan, for feeds to follow.
     wanted: Vec<u8>,
+    in_force: InForce,
 }
 
 pub fn case(random: &mut Random, count: &mut Count) {
@@ -32,10 +34,11 @@ pub fn case(random: &mut Random, count: &mut Count) {
         tiles: random.below(slots + 2),
     };
     let slots = (0..slots).map(|_| if random.once_in(2) { random.next() as u32 } else { 0 }).collect();
-    let mut state = State { living: Living::unmade(record, slots), bed: None, wanted: Vec::new() };
+    let in_force = InForce::of((0..15).map(|_| random.pick(&[0, 1, 1, 255])).collect());
+    let mut state = State { living: Living::unmade(record, slots), bed: None, wanted: Vec::new(), in_force };
     let begin = random.below(4);
     for step in 0..random.between(5, 40) {
-        let call = if step == begin { random.below(2) } else { random.below(22) };
+        let call = if step == begin { random.below(2) } else { random.below(24) };
         let before = state.bed.is_some().then(|| count.unfit());
         match call {
             0 => fresh(random, count, &mut state),
@@ -43,7 +46,10 @@ pub fn case(random: &mut Random, count: &mut Count) {
             2..=9 => feed(random, count, &mut state),
             10..=14 => claim(random, count, &mut state),
             15 | 16 => combine(random, count, &mut state),
-            _ => ask(random, count, state.living.at()),
+            17 => {
+                state.in_force.load(count, &tables::file(random));
+            }
+            _ => ask(random, count, state.living.at(), &state.in_force.bytes),
         }
         if let Some(before) = before {
             assert_eq!(count.unfit(), before, "a record answered goes with its slots: no call gives 21 or 22");
@@ -202,8 +208,8 @@ pub fn block_near(random: &mut Random, record: Record) -> (u32, u32) {
     (corner - corner % area(size) as u32, size)
 }
 
-/// The calls that change nothing.
-pub fn ask(random: &mut Random, count: &mut Count, at: At) {
+/// The calls that change nothing. Rights go by the table handed in, or now and then by any other.
+pub fn ask(random: &mut Random, count: &mut Count, at: At, table: &[u8]) {
     let (Record { order, .. }, slots) = (at.record, at.slots);
     let (column, row) = point(random, at.record);
     match random.below(9) {
@@ -229,7 +235,8 @@ pub fn ask(random: &mut Random, count: &mut Count, at: At) {
         }
         5 => {
             let asking = if random.once_in(8) { random.next() as u8 } else { random.between(1, 63) as u8 };
-            count.rights(at, column, row, asking);
+            let table = if random.once_in(3) { tables::any(random) } else { table.to_vec() };
+            count.rights(&table, at, column, row, asking);
         }
         6 => third(random, count, at),
         7 => {

@@ -1,9 +1,11 @@
-//! The worked lines of the scope paper, those that are proved as well, and those of lookups, previews, unfinished scans
-//! and positions. The numbers are the papers', computed by the checker or by hand, not the plain implementation's.
+//! The worked lines of the scope paper, those that are proved as well, and those of lookups, previews, unfinished
+//! scans, positions and tables. The numbers are the papers', computed by the checker or by hand, not the plain
+//! implementation's.
 
 use crate::living::Living;
 use crate::pair::Count;
 use crate::plain::{Record, Tile};
+use crate::tables::{file_of, OLD, WORKSHOP};
 
 /// Bed M, order 2, row after row, and its list.
 const M: [u8; 16] = [5, 5, 0, 0, 5, 5, 0, 9, 9, 0, 9, 9, 0, 0, 9, 9];
@@ -27,6 +29,7 @@ pub fn lines(count: &mut Count) {
     limits(count);
     rosters(count);
     rights(count);
+    loads(count);
     places(count);
     zones(count);
     halfway(count);
@@ -138,7 +141,7 @@ fn rosters(count: &mut Count) {
     }
 }
 
-/// The table of rights: askers and holders from each class, at the ends of each range.
+/// The old table of rights, handed in and where none is: askers and holders from each class, at the ends of each range.
 fn rights(count: &mut Count) {
     let classes = [[1, 7], [8, 47], [48, 63]];
     // own, nobody's, another guest's, another student's, another staff member's
@@ -151,16 +154,46 @@ fn rights(count: &mut Count) {
                         continue;
                     }
                     let slots = if holder == 0 { vec![] } else { vec![word(0, 0, u32::from(holder))] };
-                    let answer = count.rights((0, slots.len(), &slots), 0, 0, asking);
-                    assert_eq!(answer, (0, table[class][kind] == 1), "{asking} asks for a pixel of {holder}");
+                    for handed in [&OLD[..], &[]] {
+                        let answer = count.rights(handed, (0, slots.len(), &slots), 0, 0, asking);
+                        assert_eq!(answer, (0, table[class][kind] == 1), "{asking} asks for a pixel of {holder}");
+                    }
                 }
             }
         }
     }
     for asking in [0, 64, 255] {
-        assert_eq!(count.rights((2, 4, &M_WORDS), 3, 3, asking).0, 34);
-        assert_eq!(count.rights((2, 4, &M_WORDS), 4, 0, asking).0, 31);
+        assert_eq!(count.rights(&OLD, (2, 4, &M_WORDS), 3, 3, asking).0, 34);
+        assert_eq!(count.rights(&OLD, (2, 4, &M_WORDS), 4, 0, asking).0, 31);
     }
+}
+
+/// The lab's table for workshops: a guest on nobody's pixels, before it is loaded, after, and once a load is refused.
+fn loads(count: &mut Count) {
+    let guest_at =
+        |count: &mut Count, table: &[u8], column, row| count.rights(table, (2, 4, &M_WORDS), column, row, 50);
+    let mut table = vec![0; 15];
+    assert_eq!(guest_at(count, &table, 2, 0), (0, false));
+    assert_eq!(count.load(&file_of(&OLD), &mut table), 0);
+    assert_eq!((&table[..], guest_at(count, &table, 2, 0)), (&OLD[..], (0, false)));
+    assert_eq!(count.load(&file_of(&WORKSHOP), &mut table), 0);
+    assert_eq!((&table[..], guest_at(count, &table, 2, 0)), (&WORKSHOP[..], (0, true)));
+    for (number, file) in [
+        (55, [14, 1, 1, 1, 1, 0, 1, 1, 0, 0, 0, 1, 0, 0, 0, 0]),
+        (55, [15, 1, 1, 1, 1, 0, 1, 1, 0, 2, 0, 1, 0, 0, 0, 0]),
+        (55, [15, 2, 0, 0, 0, 0, 0, 0, 0, 0, 0, 0, 0, 0, 0, 0]),
+        // own pixels; a guest's yes that a student lacks; a student's that staff lack
+        (56, [15, 1, 1, 1, 1, 0, 1, 1, 0, 0, 0, 0, 0, 0, 0, 0]),
+        (56, [15, 1, 1, 1, 1, 1, 1, 1, 0, 0, 0, 1, 0, 0, 0, 1]),
+        (56, [15, 1, 1, 1, 0, 0, 1, 1, 0, 1, 0, 1, 0, 0, 0, 0]),
+    ] {
+        assert_eq!(count.load(&file, &mut table), number, "{file:?}");
+        assert_eq!((&table[..], guest_at(count, &table, 2, 0)), (&WORKSHOP[..], (0, true)));
+    }
+    // Only the cell that the lab has changed answers otherwise, and a table with a byte more or less counts as the old.
+    assert_eq!((guest_at(count, &table, 3, 3), guest_at(count, &table, 0, 0)), ((0, false), (0, false)));
+    assert_eq!(guest_at(count, &table[..14], 2, 0), (0, false));
+    assert_eq!(guest_at(count, &file_of(&table), 2, 0), (0, false));
 }
 
 /// Morton numbers, through the corner of a single pixel fed by rows.
@@ -204,7 +237,7 @@ fn halfway(count: &mut Count) {
     assert_eq!(count.lookup(at, 4, 3).0, 31);
     assert_eq!(count.lookup(at, 0, 2).0, 52);
     for asking in [9, 0] {
-        assert_eq!(count.rights(at, 0, 2, asking).0, 52);
+        assert_eq!(count.rights(&WORKSHOP, at, 0, 2, asking).0, 52);
     }
     assert_eq!(count.lookup((Record { pixels: 17, ..record }, &slots), 4, 1).0, 21);
     assert_eq!(count.lookup((Record { pixels: 7, ..record }, &slots), 4, 1).0, 22);

@@ -2,6 +2,7 @@
 //! storage too.
 
 use super::bed::{block_in, painted, Bed};
+use super::table::Table;
 use super::{area, file, left, morton, Record, Tile};
 
 /// The tiles of a list whose words have passed their checks; their corners rise.
@@ -181,24 +182,8 @@ pub fn shown(record: Record, slots: &[u32], corner: u32, size: u32) -> (u32, Sho
     (0, Shown { tiles: bed.blocks_of(corner, size), accounts, seen })
 }
 
-/// Who a pixel or an asker is.
-#[derive(Clone, Copy, PartialEq, Eq)]
-enum Class {
-    Staff,
-    Student,
-    Guest,
-}
-
-fn class(account: u8) -> Class {
-    match account {
-        1..=7 => Class::Staff,
-        8..=47 => Class::Student,
-        48..=63 => Class::Guest,
-        _ => panic!("account {account} has no class"),
-    }
-}
-
-pub fn rights(record: Record, slots: &[u32], column: u32, row: u32, asking: u8) -> (u32, bool) {
+/// Rights by the table that counts where these bytes are handed in.
+pub fn rights(table: &[u8], record: Record, slots: &[u32], column: u32, row: u32, asking: u8) -> (u32, bool) {
     let (number, Tile { account: holder, .. }) = lookup(record, slots, column, row);
     if number != 0 {
         return (number, false);
@@ -206,16 +191,7 @@ pub fn rights(record: Record, slots: &[u32], column: u32, row: u32, asking: u8) 
     if asking == 0 || asking > 63 {
         return (34, false);
     }
-    if holder == asking {
-        return (0, true);
-    }
-    let yes = match (class(asking), holder) {
-        (Class::Guest, _) => false,
-        (_, 0) => true,
-        (Class::Student, _) => false,
-        (Class::Staff, _) => class(holder) != Class::Staff,
-    };
-    (0, yes)
+    (0, Table::in_force(table).may(asking, holder))
 }
 
 /// The number, the tile count and the slots.

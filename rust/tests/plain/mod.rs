@@ -6,6 +6,7 @@ pub mod file;
 pub mod list;
 pub mod mils;
 pub mod points;
+pub mod table;
 pub mod tally;
 
 /// 4^n, wide enough for every size that a word can hold.

@@ -102,6 +102,31 @@ fn combinings() {
 }
 
 #[test]
+fn tables() {
+    let table = |name: &str| Source::File(name.into());
+    assert_eq!(parsed("table lab.table"), Ok(Command::Table { file: table("lab.table") }));
+    assert_eq!(parsed("table -"), Ok(Command::Table { file: Source::Standard }));
+    let make = |bytes, out| Ok(Command::MakeTable { bytes, out });
+    let bytes = [1, 1, 1, 1, 0, 1, 1, 0, 0, 0, 1, 1, 0, 0, 0];
+    assert_eq!(parsed("table 11110 11000 11000 -o lab.table"), make(bytes, to("lab.table")));
+    assert_eq!(parsed("table -o - 11110 11000 11000"), make(bytes, Target::Standard));
+    // What the digits may be, the library says.
+    assert_eq!(parsed("table 98765 43210 00000 -o x"), make([9, 8, 7, 6, 5, 4, 3, 2, 1, 0, 0, 0, 0, 0, 0], to("x")));
+}
+
+#[test]
+fn rights() {
+    let rights = |place, account, table| Ok(Command::Rights { file: bed(), place, account, table });
+    let place = || Place { column: Number(3), row: Number(1) };
+    assert_eq!(parsed("rights bed.map 3 1 51"), rights(place(), 51, None));
+    let lab = Some(Source::File("lab.table".into()));
+    assert_eq!(parsed("rights bed.map 3 1 256 --table lab.table"), rights(place(), 256, lab));
+    assert_eq!(parsed("rights --table - bed.map 3 1 51"), rights(place(), 51, Some(Source::Standard)));
+    let mils = Place { column: Mils(b"47.25".to_vec()), row: Number(1) };
+    assert_eq!(parsed("rights bed.map 47.25 1 51"), rights(mils, 51, None));
+}
+
+#[test]
 fn drawings() {
     let draw = |out, style| Ok(Command::Draw { file: bed(), out, style });
     assert_eq!(parsed("draw bed.map -o bed.svg"), draw(to("bed.svg"), Style::Svg));
@@ -150,6 +175,23 @@ fn mistakes() {
     assert_eq!(hint("inside - - -o c"), "FILE and ZONES cannot both be standard input");
     assert_eq!(hint("outside a b c -o d"), "outside takes no further c");
     assert_eq!(hint("outside a b -o c --plain"), "outside takes no --plain here");
+    assert_eq!(hint("table"), "TABLE is missing");
+    assert_eq!(hint("table a b"), "table takes no further b");
+    assert_eq!(hint("table a --table b"), "table takes no --table here");
+    assert_eq!(hint("table 11110 11000 11000"), "-o is missing: where should the result go?");
+    assert_eq!(hint("table 11110 11000 -o a"), "GUEST is missing");
+    assert_eq!(hint("table 11110 11000 11000 1 -o a"), "table takes no further 1");
+    let row = "is five digits, 1 for yes and 0 for no";
+    assert_eq!(hint("table a -o b"), format!("STAFF {row}, not a"));
+    assert_eq!(hint("table 11110 1100 11000 -o a"), format!("STUDENT {row}, not 1100"));
+    assert_eq!(hint("table 11110 11000 110000 -o a"), format!("GUEST {row}, not 110000"));
+    assert_eq!(hint("table 11110 11000 1100x -o a"), format!("GUEST {row}, not 1100x"));
+    assert_eq!(hint("rights a 1 2"), "ACCOUNT is missing");
+    assert_eq!(hint("rights a 1 2 x"), format!("ACCOUNT is {number}, not x"));
+    assert_eq!(hint("rights a 1 2 3 --table"), "nothing follows --table");
+    assert_eq!(hint("rights - 1 2 3 --table -"), "FILE and TABLE cannot both be standard input");
+    assert_eq!(hint("rights a 1 2 3 -o b"), "rights takes no -o here");
+    assert_eq!(hint("at a 1 2 --table b"), "at takes no --table here");
     assert_eq!(hint("draw a -o b.png"), "b.png ends neither in .svg nor in .html");
     assert_eq!(hint("draw a --svg --html"), "--svg and --html exclude each other");
     assert_eq!(hint("draw a -o b.svg --colour"), "draw takes no --colour here");
@@ -159,8 +201,8 @@ fn mistakes() {
 #[test]
 fn help() {
     assert!(HELP.lines().all(|line| line.len() <= 80));
-    let asking = ["check", "show", "at", "preview"];
-    let making = ["scan", "decode", "claim", "release", "inside", "outside", "draw"];
+    let asking = ["check", "show", "at", "preview", "rights"];
+    let making = ["scan", "decode", "claim", "release", "inside", "outside", "draw", "table"];
     for command in asking.iter().chain(&making) {
         assert!(HELP.contains(&format!("  kbmap {command} ")), "{command}");
     }

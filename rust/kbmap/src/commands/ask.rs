@@ -1,13 +1,14 @@
-//! `show` and `at`: what a map file says.
+//! `show` and `at`: what a map file says; `rights`: who may place there.
 
-use super::pixel;
+use super::{pixel, whose};
 use crate::args::Place;
 use crate::failure::Failure;
 use crate::input::Source;
 use crate::map::{Holding, Map};
 use crate::output::print;
+use crate::table;
 use crate::words::{class, count, share, span};
-use kingletbed::{mils, raw, Account, Block, Found, Pixel};
+use kingletbed::{mils, raw, Account, Block, Found, Pixel, Table};
 use std::fmt::Write;
 
 /// Order, tiles, and the accounts with what they have.
@@ -65,4 +66,24 @@ fn described(block: Block) -> String {
     let pixels = count(raw::extent(block.size).pixels as usize, "pixel");
     let span = span(block).unwrap_or_default();
     format!("corner {}, size {}: {span}, {pixels}", block.corner, block.size)
+}
+
+/// Whether an account may place at a pixel, by a table from its file or by the old one. An account that does not fit a
+/// byte asks as nobody, who is refused alike.
+pub fn rights(file: Source, place: &Place, account: u32, table: Option<&Source>) -> Result<(), Failure> {
+    let map = Map::open(file)?;
+    let (by, table) = match table {
+        Some(source) => (source.name(), table::open(source)?),
+        None => ("the old one".to_owned(), Table::OLD),
+    };
+    let at = pixel(&map, place)?;
+    let Pixel { column, row } = at;
+    let asking = u8::try_from(account).map_or(Account::NOBODY, Account);
+    let asked = || format!("account {account} at column {column}, row {row}, on a bed of {}", map.extent());
+    let answer = map.bed.rights(&table, at, asking).and_then(|yes| Ok((yes, map.bed.lookup(at)?.account)));
+    let (yes, holder) = answer.map_err(|refusal| map.refused(refusal, asked()))?;
+    let (said, may) = if yes { ("yes", "may") } else { ("no", "may not") };
+    let (class, whose) = (class(asking), if holder == asking { "its own".to_owned() } else { whose(holder) });
+    let line = format!("{said}: account {account}, {class}, {may} place at column {column}, row {row}");
+    print(&format!("{line}\n  the pixel: {whose}\n  the table: {by}\n"))
 }

@@ -1,13 +1,13 @@
 //! `claim` and `release`: a block changes hands; `preview`: what that would come to.
 
-use super::{apart, pixel, tell};
+use super::{apart, pixel, tell, whose};
 use crate::args::{Claim, Corner, Place};
 use crate::failure::Failure;
 use crate::input::Source;
 use crate::lock::{same_file, Locked};
 use crate::map::{self, Map};
 use crate::output::{print, Target, Writing};
-use crate::words::{class, count, span};
+use crate::words::{count, span};
 use kingletbed::{raw, Account, Block, Pixel, Refusal};
 use std::collections::BTreeMap;
 
@@ -71,14 +71,6 @@ fn lock(file: &Source, out: &Target) -> Result<Option<Locked>, Failure> {
             Locked::open_to_change(path).map(Some).map_err(|error| Failure::trouble(file.name(), &error))
         }
         _ => apart(file, out).map(|()| None),
-    }
-}
-
-/// "account 9's, student".
-fn whose(account: Account) -> String {
-    match account {
-        Account::NOBODY => "nobody's".to_owned(),
-        Account(number) => format!("account {number}'s, {}", class(account)),
     }
 }
 

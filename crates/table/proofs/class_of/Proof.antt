@@ -2,10 +2,9 @@
 use borrow.Author.Tests.{lt-leb, le-leb}
 use native.Mathlib.Omega.{arith}
 use Rattle.basics.specs.Choice.{if}
-use Rattle.rights.specs.Rights.{classOf}
-use Rattle.rights.specs.Rows.{rowOf}
-use Rattle.rights.proofs.class_of.Statement.{statement}
-use Rattle.rights.proofs.class_of.Tie as tie
+use Rattle.table.specs.Table.{classOf, rowOf}
+use Rattle.table.proofs.class_of.Statement.{statement}
+use Rattle.table.proofs.class_of.Tie as tie
 
 returns : tie.Need-returns
 unfolding classOf rowOf if

@@ -1,12 +1,12 @@
 -- The columns in the definition's order; those of others' pixels go by class.
 use borrow.Author.Tests.{eq-eqb, ne-eqb}
 use Rattle.basics.specs.Choice.{if}
-use Rattle.rights.specs.Rights.{classOf, pixelKind}
-use Rattle.rights.proofs.TableLaws.{rowOf-lt, heldBy-row}
+use Rattle.table.specs.Table.{classOf, pixelKind}
+use Rattle.table.proofs.TableLaws.{rowOf-lt, heldBy-row}
 use native.Mathlib.Omega.{arith}
 use borrow.Author.Needs.{needs}
-use Rattle.rights.proofs.pixel_kind.Statement.{statement}
-use Rattle.rights.proofs.pixel_kind.Tie as tie
+use Rattle.table.proofs.pixel_kind.Statement.{statement}
+use Rattle.table.proofs.pixel_kind.Tie as tie
 
 returns : tie.Need-returns
 unfolding pixelKind if
