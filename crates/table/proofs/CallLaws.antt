@@ -1,11 +1,10 @@
 -- The load, case by case.
 --     loadCheck-empty            a file without a byte has no count
---     Counted file m             the count is right, and so many bytes are lent
+--     Counted file m             the count is right, and so many bytes are lent; test-counted tests it
 --     behindOf, behind-all       the bytes behind the count, as code has them
 --     loadCheck-rest, -passed    a load passes just if that holds and the table passes
 --     loadCheck-some             then there is a count
 --     loadOf-refused, -done      the answer and the table left
---     loadOf-number, -passed     the number answered is that of the checks
 use mathlib.Core.Path.{_≡_, refl, ap, sym, _∙_}
 use mathlib.Core.Bool.{_&&_}
 use mathlib.Core.List.{List, [], _∷_, append-nil}
@@ -33,7 +32,6 @@ Counted file m = (getD file 0 0 ≡ tableLength) × (m ≡ tableLength)
 pub test-counted : (file : List ℕ) (m : ℕ) → Test (Counted file m) (eqb (getD file 0 0) tableLength && eqb m tableLength)
 test-counted file m = test-and (test-eqb (getD file 0 0) tableLength) (test-eqb m tableLength)
 
--- the bytes behind the count, as code has them
 abbrev pub behindOf : List ℕ → List ℕ
 behindOf file = take (length file - 1) (drop 1 file)
 
