@@ -10,7 +10,7 @@ ghost use Rattle.table.specs.Load.{tableLength, bitsOnly, hasEvery, soun
 ghost use Rattle.table.specs.Load.{tableCheck, tableOf, loadCheck, loadOf};
 
 // The bytes of a table, three rows by five columns.
-pub const LENGTH: usize = 15;
+const LENGTH: usize = 15;
 
 const COLUMNS: usize = 5;
 
