@@ -1,1 +1,2 @@
 // Definitions and laws that several crates cite: no code.
+#![tactic(auto)]

@@ -1,4 +1,6 @@
 // The scan record (document 01, "Scanning") with its limits.
+#![tactic(auto)]
+
 ghost use Rattle.std.specs.Prelude.{◌≡◌};
 ghost use Rattle.bed.specs.Places.{scan_of};
 

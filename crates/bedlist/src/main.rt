@@ -1,5 +1,7 @@
 // bedlist: reads an order and account bytes by rows from standard input, and writes the listing of what a row scan
 // makes of them.
+#![tactic(auto)]
+
 fn main() {
     let mut input = [0u8; listing_whole::INPUT_BYTES];
     let count = io::read_full(0, &mut input);

@@ -1,4 +1,6 @@
 // The checks of what a call is handed besides its map, a function each: the calls put them in their order.
+#![tactic(auto)]
+
 ghost use Rattle.std.specs.Prelude.{◌≡◌, ◌≤◌};
 ghost use Rattle.tile.specs.Tile.{highest_order};
 ghost use Rattle.checks.specs.Asked.{order_check, point_check, coordinate_check, block_check, asker_check, given_check};

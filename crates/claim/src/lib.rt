@@ -1,6 +1,8 @@
 // Claims: every pixel of a quadrant block gets an account. How a claim ends is known from its checks and its plan,
 // which only read: a preview answers that and stops. A claim then changes the list in place, by one move of its tail
 // and a few words.
+#![tactic(auto)]
+
 ghost use Rattle.std.specs.Prelude.{◌≡◌};
 ghost use Rattle.refusal.specs.Checks.{Gives};
 ghost use Rattle.claim.specs.Claim.{claim_of};

@@ -1,5 +1,7 @@
 // Merging, which only reads: a tile in place of others goes together with its siblings on both sides, over as many
 // levels as fit.
+#![tactic(auto)]
+
 ghost use Rattle.std.specs.Prelude.{map, ◌≤◌, length};
 ghost use Rattle.basics.specs.Test.{Test};
 ghost use Rattle.tile.specs.Tile.{tile_of, highest_order};

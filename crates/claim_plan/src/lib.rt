@@ -1,5 +1,7 @@
 // The plan of a claim, which only reads: which tiles of a valid list go, which tiles come in their place, and how many
 // the list then has.
+#![tactic(auto)]
+
 ghost use Rattle.std.specs.Prelude.{◌≡◌, map, ◌+◌, ◌*◌, ◌≤◌, length};
 ghost use Rattle.basics.specs.Test.{Test};
 ghost use Rattle.tile.specs.Tile.{tile_of, highest_order};

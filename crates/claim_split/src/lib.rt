@@ -1,1 +1,2 @@
 // Laws of changed blocks in linear quadtrees; this crate has no code.
+#![tactic(auto)]

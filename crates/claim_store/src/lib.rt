@@ -1,4 +1,6 @@
 // The stores of a claim: room made in the list by one move of its tail, and the tiles that come written there.
+#![tactic(auto)]
+
 ghost use Rattle.std.specs.Prelude.{◌≡◌, ◌++◌, map, ◌+◌, ◌-◌, ◌*◌, ◌≤◌, length, take, drop};
 ghost use Rattle.tile.specs.Tile.{word_of};
 ghost use Rattle.claim_split.specs.Split.{pieces};

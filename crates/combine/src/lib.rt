@@ -1,5 +1,7 @@
 // A third list from two maps of one order, by a rule over their pixels. The third map is walked run by run, once to
 // count its tiles and once to write them.
+#![tactic(auto)]
+
 ghost use Rattle.std.specs.Prelude.{◌≡◌, map, ◌≤◌, length};
 ghost use Rattle.std.proofs.lemmas.List.Edits.{sets};
 ghost use Rattle.refusal.specs.Checks.{Gives};

@@ -1,5 +1,7 @@
 // The rule by which the pixels of two maps make the pixel of a third. Code elsewhere asks `keep`, and no proof of code
 // elsewhere looks into the rule.
+#![tactic(auto)]
+
 ghost use Rattle.std.specs.Prelude.{◌≡◌, ◌≤◌};
 ghost use Rattle.tile.specs.Tile.{highest_account};
 ghost use Rattle.combine_rule.specs.Rule.{rule_of};

@@ -1,5 +1,7 @@
 // Two maps of one order walked together. Both lists are passed once in Morton order, each with a cursor, which gives
 // the runs of the third map, one after the other. The rule over the pixels is asked, and never looked into.
+#![tactic(auto)]
+
 ghost use Rattle.std.specs.Prelude.{ℕ, ◌<◌, ◌≤◌};
 ghost use Rattle.combine_rule.specs.Rule.{rule_of, third_raster};
 ghost use Rattle.combine_walk.specs.Walk.{Stands, PieceOf, Both, StepOf, RunOf};

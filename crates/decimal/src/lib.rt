@@ -1,5 +1,7 @@
 // Numbers in decimal, and lines of numbers, put into a lent buffer. As in crate `text`, what does not fit is counted.
 // And digits read as a number.
+#![tactic(auto)]
+
 ghost use Rattle.std.specs.Prelude.{◌≡◌, true, ◌++◌, ◌+◌, ◌-◌, ◌^◌, ◌<◌, length};
 ghost use Rattle.text.specs.PutAt.{PutAt, count_limit};
 ghost use Rattle.decimal.specs.Decimal.{digits_by, digits_most, digits};

@@ -1,4 +1,6 @@
 // Decoding a map to the accounts of its pixels, row after row: tile by tile, and each tile by the spans of its rows.
+#![tactic(auto)]
+
 ghost use Rattle.std.specs.Prelude.{◌≡◌, ℕ, ◌+◌, ◌*◌, ◌^◌, ◌≤◌, length};
 ghost use Rattle.refusal.specs.Checks.{Gives};
 ghost use Rattle.tile.specs.Tile.{tile_of, highest_order};

@@ -1,5 +1,7 @@
 // The library for C and Rust: each export hands its arguments to the offered call and its answer back. Nothing is asked
 // of the caller. include/kingletbed.h declares them and says what they do.
+#![tactic(auto)]
+
 ghost use Rattle.std.specs.Prelude.{◌≡◌, ℕ};
 ghost use Rattle.refusal.specs.Checks.{Gives};
 ghost use Rattle.tile.specs.Tile.{tile_of};

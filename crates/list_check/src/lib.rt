@@ -1,6 +1,8 @@
 // List checking word by word, which keeps where the last tile ends and the words of the last three. A list's first
 // words are checked so; list_flat, which is faster and does not say what is wrong, then tells how far the words are
 // clear, and those behind are checked word by word again.
+#![tactic(auto)]
+
 ghost use Rattle.std.specs.Prelude.{◌≡◌, List, [], ℕ, ◌≤◌, length, take};
 ghost use Rattle.basics.specs.Test.{Test};
 ghost use Rattle.refusal.specs.Refusal.{accepted};

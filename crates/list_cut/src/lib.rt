@@ -1,5 +1,7 @@
 // Runs cut into blocks: a stretch of Morton numbers of one account is cut, from its start on, into the largest blocks
 // that fit; they are counted, or written as words.
+#![tactic(auto)]
+
 ghost use Rattle.std.specs.Prelude.{◌≡◌, map, ◌+◌, ◌^◌, ◌<◌, ◌≤◌, length, set};
 ghost use Rattle.std.proofs.lemmas.List.Edits.{sets};
 ghost use Rattle.tile.specs.Tile.{tile, word_of, highest_order, highest_account};

@@ -1,4 +1,6 @@
 // Equal tiles: of one size and account, one behind the other, compared with words of a list and written as words.
+#![tactic(auto)]
+
 ghost use Rattle.std.specs.Prelude.{◌≡◌, ◌++◌, map, ◌+◌, ◌*◌, ◌^◌, ◌<◌, ◌≤◌, length, take, drop};
 ghost use Rattle.basics.specs.Test.{Test};
 ghost use Rattle.tile.specs.Tile.{tile_of, word_of, highest_order, highest_account};

@@ -1,5 +1,7 @@
 // List checking without a branch in the loop: how far the words of a list are clear. It does not tell what is wrong
 // with one that is not: that is list_check's, word by word.
+#![tactic(auto)]
+
 ghost use Rattle.std.specs.Prelude.{◌≡◌, false, ℕ, ◌+◌, ◌<◌, ◌≤◌, length};
 ghost use Rattle.tile.specs.Tile.{tile_of, highest_order};
 ghost use Rattle.list_flat.specs.Clear.{Clear, ClearAt};

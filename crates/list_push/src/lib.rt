@@ -1,5 +1,7 @@
 // How a tile merges with the tiles ahead of it in a tile list: four siblings become one tile, which may be the last of
 // four siblings again.
+#![tactic(auto)]
+
 ghost use Rattle.std.specs.Prelude.{◌+◌, ◌^◌, ◌≤◌, length};
 ghost use Rattle.tile.specs.Tile.{tile, highest_order, highest_account};
 ghost use Rattle.quadtree.specs.Tiling.{Levels};

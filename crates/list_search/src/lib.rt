@@ -1,5 +1,7 @@
 // Where a Morton number falls among words, by where their tiles start or by where they stop. Nothing is asked of the
 // words; in a valid list there is one such place.
+#![tactic(auto)]
+
 ghost use Rattle.std.specs.Prelude.{◌≡◌, ◌≤◌, length};
 ghost use Rattle.tile.specs.Slots.{tiles_in};
 ghost use Rattle.quadtree.specs.Quadtree.{Rising};

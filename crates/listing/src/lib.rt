@@ -1,5 +1,7 @@
 // The listing of a scanned bed as text. As in crate `text`, what does not fit is counted, so that one pass counts the
 // bytes and a second puts them.
+#![tactic(auto)]
+
 ghost use Rattle.std.specs.Prelude.{◌+◌, ◌*◌, ◌<◌, ◌≤◌, length};
 ghost use Rattle.refusal.specs.Checks.{Gives};
 ghost use Rattle.tile.specs.Tile.{tile_of};

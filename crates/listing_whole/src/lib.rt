@@ -1,4 +1,6 @@
 // The listing of a whole input, of which a program reads only so much and for which it lends only so much.
+#![tactic(auto)]
+
 ghost use Rattle.std.specs.Prelude.{◌≤◌, take};
 ghost use Rattle.listing_whole.specs.Whole.{input_bytes, Whole};
 

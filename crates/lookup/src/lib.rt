@@ -1,6 +1,8 @@
 // Lookup: the account at a column and a row, and the largest block around it that is scanned and has this account.
 // Behind the checks it is one binary search: the tiles on either side of the place found bound the stretch of nobody's
 // around a nobody's pixel, and a few steps lead from there to a block that is scanned.
+#![tactic(auto)]
+
 ghost use Rattle.std.specs.Prelude.{◌≡◌, ◌^◌, ◌<◌, ◌≤◌, length};
 ghost use Rattle.tile.specs.Tile.{tile_of, highest_order};
 ghost use Rattle.tile.specs.Slots.{tiles_in};

@@ -1,4 +1,6 @@
 // The layout of a map file, and numbers read from its bytes, high byte first.
+#![tactic(auto)]
+
 ghost use Rattle.std.specs.Prelude.{◌≡◌, ◌+◌, ◌*◌, ◌≤◌, length};
 ghost use Rattle.mapfile_bytes.specs.Layout.{word_length};
 ghost use Rattle.mapfile_bytes.specs.Items.{word_at};

@@ -1,6 +1,8 @@
 // The roster section of a map file, checked against the tiles: read only, with a pass over the words for each entry.
 // Which accounts have tiles is not asked: entries that rise are the roster if each has the pixels of its account, of
 // which there are some, and together they have those of all tiles.
+#![tactic(auto)]
+
 ghost use Rattle.std.specs.Prelude.{◌≡◌, map, ◌+◌, ◌≤◌, length, get_or};
 ghost use Rattle.refusal.specs.Refusal.{accepted};
 ghost use Rattle.tile.specs.Tile.{tile_of, highest_order};

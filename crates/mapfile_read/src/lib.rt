@@ -1,4 +1,6 @@
 // The reader of a map file. A file is any bytes: everything is examined first, read only, and stored then.
+#![tactic(auto)]
+
 ghost use Rattle.std.specs.Prelude.{◌≡◌, [], ◌++◌, map, ◌≤◌, length, drop};
 ghost use Rattle.refusal.specs.Refusal.{accepted};
 ghost use Rattle.refusal.specs.Checks.{Gives};

@@ -1,4 +1,6 @@
 // What a tile adds to the pixels of an account, and sets of accounts.
+#![tactic(auto)]
+
 ghost use Rattle.std.specs.Prelude.{◌≡◌, false, ◌||◌, ◌^◌, ◌≤◌, eqb};
 ghost use Rattle.basics.specs.Choice.{if};
 ghost use Rattle.tile.specs.Tile.{tile_of, highest_account};

@@ -1,5 +1,7 @@
 // One map, one file, as reader and writer have it: stated in specs/ and proved in proofs/. The one function here is
 // there for its promise.
+#![tactic(auto)]
+
 ghost use Rattle.mapfile_same.specs.Same.{Bytes};
 
 // Any bytes that code is handed are `Bytes`, as the statement asks of a file: looking at one of them tells it of all.

@@ -1,5 +1,7 @@
 // The sections of a map file, stored into bytes: words, and the roster, which is counted from the list with a pass for
 // each account that has tiles.
+#![tactic(auto)]
+
 ghost use Rattle.std.specs.Prelude.{◌≡◌, ◌+◌, ◌*◌, ◌%◌, ◌≤◌, ltb, length, take};
 ghost use Rattle.std.proofs.lemmas.List.Edits.{sets};
 ghost use Rattle.tile.specs.Tile.{highest_order, highest_account};

@@ -1,5 +1,7 @@
 // Positions in mils: the pixel of a position given as text, and the smallest position of a pixel, as a number and as
 // text. A call is handed an order and one coordinate, and no map.
+#![tactic(auto)]
+
 ghost use Rattle.std.specs.Prelude.{◌≡◌, true, ◌^◌, ◌<◌, length};
 ghost use Rattle.refusal.specs.Checks.{Gives};
 ghost use Rattle.tile.specs.Tile.{highest_order};

@@ -1,5 +1,7 @@
 // Morton numbers by interleaving bits, for columns and rows of ten bits. Higher bits are dropped, so that each function
 // takes every u32.
+#![tactic(auto)]
+
 ghost use Rattle.std.specs.Prelude.{◌≡◌, ◌*◌};
 ghost use Rattle.morton.specs.Morton.{morton, column, row, side_bits};
 

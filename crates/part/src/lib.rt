@@ -1,4 +1,6 @@
 // Quadrant part: the tiles of a list inside a quadrant, by binary search.
+#![tactic(auto)]
+
 ghost use Rattle.std.specs.Prelude.{◌≡◌, ℕ};
 ghost use Rattle.refusal.specs.Refusal.{accepted};
 ghost use Rattle.tile.specs.Slots.{tiles_in};

@@ -1,5 +1,7 @@
 // Calls that are handed no map: how large a bed is, the Morton number of a point and the point of a Morton number, and
 // the block of a size around a point. What a host needs of this arithmetic is here, so that it has none of its own.
+#![tactic(auto)]
+
 ghost use Rattle.std.specs.Prelude.{◌≡◌};
 ghost use Rattle.points.specs.Points.{extent_of, point_asked, number_of, around_asked, around_of, number_asked, point_of};
 

@@ -1,1 +1,2 @@
 // The definitions and the theory of linear quadtrees: no code.
+#![tactic(auto)]

@@ -1,5 +1,7 @@
 // The refusal numbers of every call, under the name of the condition met. specs/Refusal.antt has the same list for the
 // definitions.
+#![tactic(auto)]
+
 
 pub const ACCEPTED: u32 = 0;
 

@@ -1,4 +1,6 @@
 // Placement rights: which account may place at which pixel, by lookup's answer and the table of rights.
+#![tactic(auto)]
+
 ghost use Rattle.std.specs.Prelude.{◌≡◌};
 ghost use Rattle.rights.specs.Rights.{rights_of};
 

@@ -1,4 +1,6 @@
 // Fresh scans and feeds.
+#![tactic(auto)]
+
 ghost use Rattle.refusal.specs.Checks.{Gives};
 ghost use Rattle.scan.specs.FreshScan.{fresh_of};
 ghost use Rattle.scan.specs.Feed.{feed_of};

@@ -1,5 +1,7 @@
 // Bands of a scan by rows: 2 ^ k whole rows from a row on that is a multiple of 2 ^ k. A band is put block by block
 // from west to east, each block in Morton order.
+#![tactic(auto)]
+
 ghost use Rattle.std.specs.Prelude.{◌^◌, ◌≤◌, ◌≡◌};
 ghost use Rattle.tile.specs.Tile.{highest_order};
 ghost use Rattle.scan_gap.specs.Gap.{Fits};

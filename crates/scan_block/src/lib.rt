@@ -1,5 +1,7 @@
 // Blocks of pixels put into a list with a gap, in Morton order and by quads of two by two pixels, where no slot can be
 // missing.
+#![tactic(auto)]
+
 ghost use Rattle.std.specs.Prelude.{◌≡◌, ◌+◌, ◌-◌, ◌^◌, ◌<◌, ◌≤◌};
 ghost use Rattle.morton.specs.Morton.{morton, side_bits};
 ghost use Rattle.tile.specs.Tile.{highest_order, highest_account};

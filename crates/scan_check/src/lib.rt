@@ -1,5 +1,7 @@
 // The checks of a scan: the opening checks, those of its list and then 21 and 22 of its record; and 52, that what a
 // call asks for is scanned, a function for each thing asked.
+#![tactic(auto)]
+
 ghost use Rattle.std.specs.Prelude.{◌≡◌, ℕ, ◌^◌, ◌<◌, ◌≤◌, eqb, leb, length};
 ghost use Rattle.tile.specs.Tile.{highest_order};
 ghost use Rattle.tile.specs.Slots.{tiles_in};

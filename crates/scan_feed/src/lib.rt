@@ -1,4 +1,6 @@
 // Pixels fed to a list with a gap: many at once where none of them can be refused, else one account after the other.
+#![tactic(auto)]
+
 ghost use Rattle.std.specs.Prelude.{◌≡◌, ◌+◌, ◌^◌, ◌<◌, ◌≤◌, length};
 ghost use Rattle.morton.specs.Morton.{morton, side_bits};
 ghost use Rattle.tile.specs.Tile.{highest_order, highest_account};

@@ -1,5 +1,7 @@
 // A tile list in lent slots with a gap: its words before `front` and those from `back` on. A pixel is put where the gap
 // lies, and merges with its siblings ahead of it before it needs a slot.
+#![tactic(auto)]
+
 ghost use Rattle.std.specs.Prelude.{◌≡◌, true, ◌++◌, ◌+◌, ◌-◌, ◌^◌, ◌<◌, ◌≤◌, length, get_or, replicate};
 ghost use Rattle.tile.specs.Tile.{tile, tile_of, highest_order, highest_account};
 ghost use Rattle.quadtree.specs.Tiling.{Levels};

@@ -1,1 +1,2 @@
 // Laws of a stretch of a scan's places to which accounts are fed; no code.
+#![tactic(auto)]

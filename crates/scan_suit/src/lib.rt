@@ -1,5 +1,7 @@
 // How many of the next accounts of a feed can be put at once, since none of them can be refused: a band of rows, or in
 // Morton order a stretch.
+#![tactic(auto)]
+
 ghost use Rattle.std.specs.Prelude.{◌≡◌, ◌+◌, ◌/◌, ◌^◌, ◌<◌, ◌≤◌, length};
 ghost use Rattle.tile.specs.Tile.{highest_order};
 ghost use Rattle.scan_suit.specs.Suits.{BandTaken, StretchTaken};

@@ -1,5 +1,7 @@
 // What the accounts of whole rows weigh by quads, and how high they go: what has to be known of a band before it is
 // put.
+#![tactic(auto)]
+
 ghost use Rattle.std.specs.Prelude.{◌≡◌, ◌+◌, ◌-◌, ◌*◌, ◌<◌, ◌≤◌, length};
 ghost use Rattle.scan_stretch.specs.Weight.{one, weight, total};
 ghost use Rattle.scan_weigh.specs.Weighed.{quad_from, pair_from, rows_from, NoneAbove};

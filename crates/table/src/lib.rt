@@ -1,5 +1,7 @@
 // The table of rights: which class of accounts may place at which kind of pixel. The lab's own table is loaded from a
 // file into bytes that the caller keeps and hands in; where no load would accept these, the old table counts.
+#![tactic(auto)]
+
 ghost use Rattle.std.specs.Prelude.{◌≡◌, ◌&&◌, not, ◌<◌, length};
 ghost use Rattle.refusal.specs.Checks.{Gives};
 ghost use Rattle.table.specs.Table.{class_of, row_of, columns, pixel_kind, says, may_place};

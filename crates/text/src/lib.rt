@@ -1,5 +1,7 @@
 // Bytes put into a lent buffer one behind the other. What no longer fits is counted and not put, so that the same
 // functions also count.
+#![tactic(auto)]
+
 ghost use Rattle.std.specs.Prelude.{[], ◌∷◌, ◌+◌, ◌<◌, length};
 ghost use Rattle.text.specs.PutAt.{PutAt, count_limit};
 

@@ -1,5 +1,7 @@
 // The tile word, packed and unpacked by shifts and masks, and the areas and corners of blocks. No other crate knows the
 // bits.
+#![tactic(auto)]
+
 ghost use Rattle.std.specs.Prelude.{◌≡◌, ◌^◌, ◌<◌, ◌≤◌};
 ghost use Rattle.tile.specs.Tile.{tile, stop, corner_at, tile_of, word_of, highest_order, highest_account};
 

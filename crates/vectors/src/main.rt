@@ -1,5 +1,7 @@
 // The worked lines of document 01 that are not starred, and the one of quadrant parts, run;
 // crates/vectors/stdout has what they must print.
+#![tactic(auto)]
+
 use bed::{Kind, Scan};
 
 // A line of words and two numbers.

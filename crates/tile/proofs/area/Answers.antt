@@ -1,0 +1,7 @@
+-- The shift gives the power of four.
+use borrow.Author.Rules.{rules}
+use Rattle.tile.proofs.Bits.{shift_area}
+use Rattle.tile.proofs.area.Goals as goal
+
+pub returns : goal.returns
+returns c = shift_area _ c.requires
