@@ -20,10 +20,11 @@ sublist_member : {us ts : List Tile} {t : Tile} → Sublistᴰ us ts → t ∈ u
 sublist_member (Sublistᴰ.cons s) m = Memᴰ.tail (sublist_member s m)
 sublist_member (Sublistᴰ.cons-cons e s) (Memᴰ.head p) = Memᴰ.head (p ∙ e)
 sublist_member (Sublistᴰ.cons-cons e s) (Memᴰ.tail m) = Memᴰ.tail (sublist_member s m)
+sublist_member {t = t} mathlib.Core.List.Sublistᴰ.slnil m = elim m [ ]
 
 chain_sublist : {n lo : ℕ} {us ts : List Tile} → Sublistᴰ us ts → Chain n lo ts → Chain n lo us
 chain_sublist Sublistᴰ.slnil c = end
-chain_sublist (Sublistᴰ.cons s) (link {t = t} p r) = chain_lower (omega (arith, p.after, area_pos t.size)) (chain_sublist s r)
+chain_sublist {lo = lo} (Sublistᴰ.cons s) (link {t = t} p r) = chain_lower (omega (arith, p.after, area_pos t.size)) (chain_sublist {lo = stop t} s r)
 chain_sublist (Sublistᴰ.cons-cons e s) (link p r) = rw e (link p (chain_sublist s r))
 
 pub valid_remove : {n : ℕ} {us ts : List Tile} → Sublistᴰ us ts → Valid n ts → Valid n us
@@ -45,7 +46,7 @@ chain_first {hi = hi} (link {t = t} s r) h = link {lo = hi} {t = t} (record { qu
 
 chain_insert : {n lo : ℕ} (a : List Tile) {b : List Tile} {t : Tile} → Chain n lo (a ++ b) → lo ≤ t.corner → Fits n a b t → Chain n lo (a ++ t ∷ b)
 chain_insert [] {t = t} c l f = link {t = t} (record { quadrant = f.quadrant; after = l }) (chain_first c f.ahead)
-chain_insert (x ∷ a) (link s r) l f = link s (chain_insert a r (f.behind x (Memᴰ.head refl)) (record { quadrant = f.quadrant; behind = λ u m. f.behind u (Memᴰ.tail m); ahead = f.ahead }))
+chain_insert {lo = lo} (x ∷ a) (link s r) l f = link s (chain_insert {lo = stop x} a r (f.behind x (Memᴰ.head refl)) (record { quadrant = f.quadrant; behind = λ u m. f.behind u (Memᴰ.tail m); ahead = f.ahead }))
 
 -- a tile of the longer list is t or one of the others
 member_cases : (a b : List Tile) {t x : Tile} → x ∈ (a ++ t ∷ b) → (x ≡ t) ⊎ (x ∈ (a ++ b))

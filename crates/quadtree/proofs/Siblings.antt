@@ -132,6 +132,7 @@ record Starts (n : ℕ) (x : Tile) (ts : List Tile) : Type 0 where
 starts : {n lo : ℕ} {x : Tile} {ts : List Tile} → Chain n lo ts → x ∈ ts → x.corner ≡ lo → Starts n x ts
 starts (link {ts = ts} s r) (Memᴰ.head e) h = record { rest = ts; is = ap (λ (y : Tile). y ∷ ts) (sym e); chain = rw e r }
 starts (link {t = u} s r) (Memᴰ.tail m) h = absurd (omega (arith, chain_from r m, s.after, area_pos u.size))
+starts {n = n} {lo = lo} end x8 h = elim x8 [ ]
 
 -- a tile that is not the first is in the rest
 later : {x y : Tile} {ts : List Tile} → x ∈ (y ∷ ts) → y.corner < x.corner → x ∈ ts

@@ -46,7 +46,7 @@ tiling_insert r o s = tiling_append r (next (next_at o) s)
 
 pub tiling_split : {f : ℕ → ℕ} {hi lo : ℕ} (a : List Tile) {t : Tile} {b : List Tile} → Tiling f hi lo (a ++ t ∷ b) → Tiling f t.corner lo a × Tiling f hi t.corner (t ∷ b)
 tiling_split [] (next n r) = (none n.after n.blank, next (next_at n.on) r)
-tiling_split (x ∷ a) (next n r) = let s = tiling_split a r in (next n s.0, s.1)
+tiling_split {lo = lo} (x ∷ a) (next n r) = let s = tiling_split {lo = stop x} a r in (next n s.0, s.1)
 
 pub record Placed (f : ℕ → ℕ) (hi lo : ℕ) (t : Tile) : Type 0 where
   pub from : lo ≤ t.corner
@@ -61,6 +61,7 @@ placed {f} {hi} {lo} (next {t = u} n r) (Memᴰ.head e) = rw e (first_placed n r
 placed {f} {hi} {lo} {t} (next {t = u} n r) (Memᴰ.tail m) =
     let p = placed r m in
     record { from = omega (arith, p.from, n.after); upto = p.upto; on = p.on }
+placed {f = f} {hi = hi} {t = t} (none {lo = lo} _ _) x6 = elim x6 [ ]
 
 -- a tiling cut where no tile lies: those of a end by x, and those of b start at y or behind
 module _ {f : ℕ → ℕ} {hi : ℕ} (x y : ℕ) (xy : x ≤ y) (in-bed : y ≤ hi) {b : List Tile} (behind : (u : Tile) → u ∈ b → y ≤ u.corner) where
@@ -72,8 +73,8 @@ module _ {f : ℕ → ℕ} {hi : ℕ} (x y : ℕ) (xy : x ≤ y) (in-bed : y ≤
       go (next {t = t} n r) w =
           let c = w t (Memᴰ.head refl) in
           (none l (λ z p q. n.blank z p (omega arith)), next {lo = y} {t = t} (record { after = c; blank = λ z p q. n.blank z (omega arith) q; on = n.on }) r)
-  tiling_cut (u ∷ a) (next n r) l ahead =
-      let s = tiling_cut a r (ahead u (Memᴰ.head refl)) (λ v m. ahead v (Memᴰ.tail m)) in
+  tiling_cut {lo = lo} (u ∷ a) (next n r) l ahead =
+      let s = tiling_cut {lo = stop u} a r (ahead u (Memᴰ.head refl)) (λ v m. ahead v (Memᴰ.tail m)) in
       (next n s.0, s.1)
 
 pub tiling_cong : {f g : ℕ → ℕ} {hi lo : ℕ} {ts : List Tile} → Tiling f hi lo ts → ((z : ℕ) → lo ≤ z → z < hi → g z ≡ f z) → Tiling g hi lo ts
