@@ -2,7 +2,6 @@
 use mathlib.Core.Path.{◌≡◌, refl, sym, ◌∙◌}
 use Prim.Native.Nat.{◌-◌, ◌≤◌}
 use borrow.Author.Rules.{rules}
-use borrow.Author.Tests.{not-true, not-false}
 use native.Mathlib.Omega.{arith}
 use lib.ListN.{length, drop}
 use Rattle.decimal.specs.Value.{digits_only}
@@ -16,13 +15,13 @@ pub returns-then-not-is_digit : goal.returns-then-not-is_digit
 returns-then-not-is_digit c =
     let a = c.args in
     let l = c.loop-i in
-    sym (l.invariant.1 ∙ only_not a.bytes.now l.i (omega arith) (sym c.is_digit.ensures ∙ not-true _ c.if-not-is_digit.true))
+    sym (l.invariant.1 ∙ only_not a.bytes.now l.i (omega arith) (sym c.is_digit.ensures ∙ c.if-not-is_digit.true))
 
 pub loop-i-preserved : goal.loop-i-preserved
 loop-i-preserved c =
     let a = c.args in
     let l = c.loop-i in
-    (omega arith, l.invariant.1 ∙ only_next a.bytes.now l.i (omega arith) (sym c.is_digit.ensures ∙ not-false _ c.if-not-is_digit.false))
+    (omega arith, l.invariant.1 ∙ only_next a.bytes.now l.i (omega arith) (sym c.is_digit.ensures ∙ c.if-not-is_digit.false))
 
 pub returns : goal.returns
 returns c = sym (c.loop-i.invariant.1 ∙ only_end c.args.bytes.now c.loop-i.i (omega arith))

@@ -8,10 +8,7 @@ use Rattle.decimal.proofs.put_triple.Goals as goal
 
 pub returns : goal.returns
 returns c =
-    let second = c in
-    let first = second in
-    let put-number = first.before.before.before.before.before.put-number in
-    put_at_then put-number.ensures (put_at_then first.put-field.ensures (put_at_then second.put_field-s.ensures c.put.ensures))
+    put_at_then c.put_number-p.ensures (put_at_then c.put_field-q.ensures (put_at_then c.put_field-s.ensures c.put.ensures))
 
 pub put_field-q-requires : goal.put_field-q-requires
 put_field-q-requires c = omega (arith, digits_by_most digits_most c.args.a)

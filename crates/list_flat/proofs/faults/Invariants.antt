@@ -1,0 +1,14 @@
+-- The loop keeps `Stretch`; at its end the corners of all words tell that each is on the bed.
+use Prim.Native.Nat.{◌-◌, ◌≤◌}
+use native.Mathlib.Omega.{arith}
+use borrow.Author.Rules.{rules}
+use borrow.Author.Tests.{leb-false}
+use Rattle.basics.proofs.Tests.{neither}
+use Rattle.list_flat.proofs.StretchLaws.{Stretch, stretch_start, stretch_on, stretch_clear}
+use Rattle.list_flat.proofs.faults.Given as goal
+
+abbrev pub invariant-loop-i : goal.invariant-loop-i
+invariant-loop-i l = (l.from ≤ l.i) × Stretch l.slots l.from l.bad l.all l.i
+
+abbrev pub decreases-loop-i : goal.decreases-loop-i
+decreases-loop-i l = l.to - l.i
