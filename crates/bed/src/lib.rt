@@ -5,14 +5,14 @@ ghost use Rattle.std.specs.Prelude.{◌≡◌};
 ghost use Rattle.bed.specs.Places.{scan_of};
 
 // By rows, or in Morton order.
-#[derive(Drop)]
+#[derive(Clone, Copy)]
 pub enum Kind {
     Rows,
     Morton,
 }
 
 // A scan's kind and order, the pixels scanned and the tile count of its list.
-#[derive(Drop)]
+#[derive(Clone, Copy)]
 pub struct Scan {
     pub kind: Kind,
     pub order: u32,

@@ -14,14 +14,14 @@ use claim_plan::Planned;
 
 // The answer of a claim, and of its preview: the tile count of the list that the claim leaves.
 #[repr(C)]
-#[derive(Drop)]
+#[derive(Clone, Copy)]
 pub struct Claimed {
     pub number: u32,
     pub tiles: usize,
 }
 
 // How a claim ends: by the first check broken, or with a plan whose list has slots enough.
-#[derive(Drop)]
+#[derive(Clone, Copy)]
 enum Outcome {
     Refused(u32),
     Fits(Planned),

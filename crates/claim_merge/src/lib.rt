@@ -10,7 +10,7 @@ ghost use Rattle.bed.specs.Bed.{claimed};
 ghost use Rattle.claim_merge.specs.Standing.{Block, Beside, Stands, Merges};
 
 // A tile of size `size` at `corner` in place of the tiles from `lo` up to `hi`.
-#[derive(Drop)]
+#[derive(Clone, Copy)]
 pub struct Grown {
     pub lo: usize,
     pub hi: usize,

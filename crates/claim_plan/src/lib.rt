@@ -11,7 +11,7 @@ ghost use Rattle.claim_plan.specs.Plan.{Claimable, Covered, Changes, inner, Plan
 
 // The tiles from `lo` up to `hi` give way to those of the block of size `top` at the corner `first`, in which the block
 // of size `size` at `corner` has the claimed account and the rest is the owner's.
-#[derive(Drop)]
+#[derive(Clone, Copy)]
 pub struct Change {
     pub lo: usize,
     pub hi: usize,
@@ -23,7 +23,7 @@ pub struct Change {
 }
 
 // A change, how many tiles come, and how many the list then has.
-#[derive(Drop)]
+#[derive(Clone, Copy)]
 pub struct Planned {
     pub change: Change,
     pub pieces: usize,

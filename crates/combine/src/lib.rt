@@ -15,7 +15,7 @@ use combine_rule::Choice;
 
 // The answer: the number, and the tile count of the third list.
 #[repr(C)]
-#[derive(Drop)]
+#[derive(Clone, Copy)]
 pub struct Combined {
     pub number: u32,
     pub tiles: usize,

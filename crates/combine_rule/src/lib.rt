@@ -7,7 +7,7 @@ ghost use Rattle.tile.specs.Tile.{highest_account};
 ghost use Rattle.combine_rule.specs.Rule.{rule_of};
 
 // Which pixels of the first map are kept: those that are somebody's on the second, or those that are nobody's there.
-#[derive(Drop)]
+#[derive(Clone, Copy)]
 pub enum Choice {
     Inside,
     Outside,

@@ -9,7 +9,7 @@ ghost use Rattle.combine_walk.specs.Walk.{Stands, PieceOf, Both, StepOf, RunOf};
 use combine_rule::Choice;
 
 // A stretch of one map: its account, where it ends, and the first tile that does not end ahead of it.
-#[derive(Drop)]
+#[derive(Clone, Copy)]
 pub struct Piece {
     pub account: u8,
     pub stop: u32,
@@ -17,7 +17,7 @@ pub struct Piece {
 }
 
 // A stretch of the third map: its account, where it ends, and the cursors of both lists there.
-#[derive(Drop)]
+#[derive(Clone, Copy)]
 pub struct Step {
     pub account: u8,
     pub stop: u32,
@@ -27,7 +27,7 @@ pub struct Step {
 
 // The end of a run of the third map, and the step that begins the next run there. At the bed's end there is none, and
 // `next` says nothing.
-#[derive(Drop)]
+#[derive(Clone, Copy)]
 pub struct RunEnd {
     pub stop: u32,
     pub next: Step,

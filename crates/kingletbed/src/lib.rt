@@ -42,7 +42,7 @@ use rights::Right;
 
 // A fresh scan's answer, with the record's four numbers.
 #[repr(C)]
-#[derive(Drop)]
+#[derive(Clone, Copy)]
 pub struct FreshAnswer {
     pub number: u32,
     pub kind: u32,
@@ -53,7 +53,7 @@ pub struct FreshAnswer {
 
 // A feed's answer, with the new record's four numbers.
 #[repr(C)]
-#[derive(Drop)]
+#[derive(Clone, Copy)]
 pub struct FeedAnswer {
     pub number: u32,
     pub taken: usize,

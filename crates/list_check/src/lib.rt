@@ -20,7 +20,7 @@ const FEW: usize = 16;
 
 // What the pass keeps of the tiles ahead: where the last one ends, and the words of the last three, which are 0 where
 // there is none.
-#[derive(Drop)]
+#[derive(Clone, Copy)]
 pub struct Ahead {
     pub stop: u32,
     pub first: u32,
@@ -29,7 +29,7 @@ pub struct Ahead {
 }
 
 // What a step says of a word: its refusal, or that it is accepted and what is ahead of the next word.
-#[derive(Drop)]
+#[derive(Clone, Copy)]
 pub struct Judged {
     pub refusal: u32,
     pub ahead: Ahead,

@@ -8,7 +8,7 @@ ghost use Rattle.quadtree.specs.Tiling.{Levels};
 ghost use Rattle.list_push.specs.Merging.{Room, Three, MergedInto};
 
 // What a tile becomes when it merges with the words ahead of it: the slot that it takes, and its size.
-#[derive(Drop)]
+#[derive(Clone, Copy)]
 pub struct Top {
     pub at: usize,
     pub size: u32,

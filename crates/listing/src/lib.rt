@@ -12,7 +12,7 @@ ghost use Rattle.listing.specs.Listing.{tile_line, tile_lines, stop_line, scan_l
 ghost use Rattle.listing.specs.Listing.{listed_in, list_of};
 
 // The bytes written, with the number 26 where the listing takes more than were lent.
-#[derive(Drop)]
+#[derive(Clone, Copy)]
 pub struct Listed {
     pub number: u32,
     pub length: usize,

@@ -18,7 +18,7 @@ use bed::Scan;
 
 // Lookup's answer: the largest block with the pixel that is wholly scanned and has one account, and this account.
 #[repr(C)]
-#[derive(Drop)]
+#[derive(Clone, Copy)]
 pub struct Found {
     pub number: u32,
     pub account: u8,

@@ -13,7 +13,7 @@ ghost use Rattle.mapfile_read.specs.Examined.{refused_with, examined};
 
 // The reader's answer: the order and the tile count of the list read.
 #[repr(C)]
-#[derive(Drop)]
+#[derive(Clone, Copy)]
 pub struct Reading {
     pub number: u32,
     pub order: u32,
@@ -21,7 +21,7 @@ pub struct Reading {
 }
 
 // What the words of a file come to: the first refusal, or that they are accepted and the pixels of all their tiles.
-#[derive(Drop)]
+#[derive(Clone, Copy)]
 struct Tiled {
     refusal: u32,
     area: u32,

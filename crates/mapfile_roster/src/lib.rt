@@ -10,7 +10,7 @@ ghost use Rattle.mapfile_roster.specs.Accounts.{has, SetOf, count};
 pub const LOWEST_ACCOUNT: u8 = 1;
 
 // A set of accounts, a bit for each: no other crate knows the bits.
-#[derive(Drop)]
+#[derive(Clone, Copy)]
 pub struct Accounts {
     bits: u64,
 }

@@ -13,7 +13,7 @@ ghost use Rattle.mapfile_write.specs.Writer.{file_of, ready_check, write_of};
 
 // The writer's answer: the bytes written.
 #[repr(C)]
-#[derive(Drop)]
+#[derive(Clone, Copy)]
 pub struct Written {
     pub number: u32,
     pub length: usize,

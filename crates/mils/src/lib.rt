@@ -13,7 +13,7 @@ ghost use Rattle.mils.specs.Calls.{pixel_of, pixel_asked, hundredths_of, text_of
 
 // The pixel of a position, 0 where it is refused.
 #[repr(C)]
-#[derive(Drop)]
+#[derive(Clone, Copy)]
 pub struct Pixel {
     pub number: u32,
     pub pixel: u32,
@@ -21,7 +21,7 @@ pub struct Pixel {
 
 // The hundredths of a mil of a pixel, 0 where it is refused.
 #[repr(C)]
-#[derive(Drop)]
+#[derive(Clone, Copy)]
 pub struct Hundredths {
     pub number: u32,
     pub h: u32,
@@ -29,7 +29,7 @@ pub struct Hundredths {
 
 // The length of a text put into lent bytes, 0 where it is refused.
 #[repr(C)]
-#[derive(Drop)]
+#[derive(Clone, Copy)]
 pub struct PutText {
     pub number: u32,
     pub length: usize,

@@ -9,7 +9,7 @@ ghost use Rattle.part.specs.Part.{is_inside, part_check, part_of, slice_of, word
 
 // The answer of quadrant part's companion.
 #[repr(C)]
-#[derive(Drop)]
+#[derive(Clone, Copy)]
 pub struct Part {
     pub number: u32,
     pub position: usize,

@@ -7,7 +7,7 @@ ghost use Rattle.points.specs.Points.{extent_of, point_asked, number_of, around_
 
 // What a bed of an order measures.
 #[repr(C)]
-#[derive(Drop)]
+#[derive(Clone, Copy)]
 pub struct Extent {
     pub number: u32,
     pub side: u32,
@@ -16,7 +16,7 @@ pub struct Extent {
 
 // The Morton number of a point.
 #[repr(C)]
-#[derive(Drop)]
+#[derive(Clone, Copy)]
 pub struct Numbered {
     pub number: u32,
     pub morton: u32,
@@ -24,7 +24,7 @@ pub struct Numbered {
 
 // The block around a point.
 #[repr(C)]
-#[derive(Drop)]
+#[derive(Clone, Copy)]
 pub struct Around {
     pub number: u32,
     pub corner: u32,
@@ -33,7 +33,7 @@ pub struct Around {
 
 // The point of a Morton number.
 #[repr(C)]
-#[derive(Drop)]
+#[derive(Clone, Copy)]
 pub struct Point {
     pub number: u32,
     pub column: u32,

@@ -6,7 +6,7 @@ ghost use Rattle.rights.specs.Rights.{rights_of};
 
 // The rights call's answer.
 #[repr(C)]
-#[derive(Drop)]
+#[derive(Clone, Copy)]
 pub struct Right {
     pub number: u32,
     pub yes: bool,

@@ -6,14 +6,14 @@ ghost use Rattle.scan.specs.FreshScan.{fresh_of};
 ghost use Rattle.scan.specs.Feed.{feed_of};
 
 // A fresh scan's answer: the record of the kind asked, with all its numbers 0 where it is refused.
-#[derive(Drop)]
+#[derive(Clone, Copy)]
 pub struct Fresh {
     pub number: u32,
     pub scan: bed::Scan,
 }
 
 // A feed's answer: the count taken and the new record.
-#[derive(Drop)]
+#[derive(Clone, Copy)]
 pub struct Fed {
     pub number: u32,
     pub taken: usize,

@@ -38,6 +38,7 @@ unfolding covers_unscanned
 covers_member c (t ∷ ts) (Memᴰ.head e) h = rw (← e, h)
 covers_member c (t ∷ ts) (Memᴰ.tail m) h =
     ap (λ (b : Bool). unscanned_in c.kind c.order c.pixels t.corner t.size || b) (covers_member c ts m h) ∙ or_true (unscanned_in c.kind c.order c.pixels t.corner t.size)
+covers_member c {u = u} mathlib.Core.List.[] x'' h = elim x'' [ ]
 
 pub covers_empty : (c : Scan) (slots : List ℕ) (t : ℕ) → t ≡ 0 → covers_unscanned c (tiles_in t slots) ≡ false
 unfolding covers_unscanned tiles_in

@@ -16,14 +16,14 @@ ghost use Rattle.scan_feed.specs.Feeding.{AtPlace, Trails, Stepped, FedOn, FedTo
 
 // A pixel's Morton number, and its levels: the size of the largest block that ends with it, which is as often as it can
 // merge.
-#[derive(Drop)]
+#[derive(Clone, Copy)]
 pub struct Place {
     pub z: u32,
     pub levels: u32,
 }
 
 // What one account leaves: its refusal, or that it is accepted, and where the list has its gap.
-#[derive(Drop)]
+#[derive(Clone, Copy)]
 pub struct AfterPixel {
     pub number: u32,
     pub front: usize,
@@ -31,7 +31,7 @@ pub struct AfterPixel {
 }
 
 // What a feed leaves: its refusal, the count taken, the pixels scanned, and where the list has its gap.
-#[derive(Drop)]
+#[derive(Clone, Copy)]
 pub struct AfterPixels {
     pub number: u32,
     pub taken: usize,

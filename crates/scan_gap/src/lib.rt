@@ -8,14 +8,14 @@ ghost use Rattle.quadtree.specs.Tiling.{Levels};
 ghost use Rattle.scan_gap.specs.Gap.{held, Fits, Placed, Pushed, Low, High, Moved};
 
 // Where the two parts of a list end and start.
-#[derive(Drop)]
+#[derive(Clone, Copy)]
 pub struct Gap {
     pub front: usize,
     pub back: usize,
 }
 
 // Both parts after a pixel, and whether the slots were full: there was none for it.
-#[derive(Drop)]
+#[derive(Clone, Copy)]
 pub struct Outcome {
     pub full: bool,
     pub front: usize,

@@ -13,14 +13,14 @@ loop-grown-init c = (omega arith, grown_start _ _ _)
 pub returns-then-at-lt3 : goal.returns-then-at-lt3
 returns-then-at-lt3 c =
     let l = c.loop-grown in
-    merged_short c.requires.1.1.1 l.invariant.1 l.invariant.0 c.if-at-lt3.true (omega (arith, l.invariant.1.back))
+    merged_short c.requires.size_le_levels.1 l.invariant.1 l.invariant.0 c.if-at-lt3.true (omega (arith, l.invariant.1.back))
 
 pub returns-then-not-siblings : goal.returns-then-not-siblings
 returns-then-not-siblings c =
     let l = c.loop-grown in
     let p = c.requires in
     let area = c.area in
-    merged_other p.1.1.1 l.invariant.1 l.invariant.0 (rw area.ensures at (c.siblings.ensures.are_not ( c.if-not-siblings.true)))
+    merged_other p.size_le_levels.1 l.invariant.1 l.invariant.0 (rw area.ensures at (c.siblings.ensures.are_not ( c.if-not-siblings.true)))
 
 pub loop-grown-preserved : goal.loop-grown-preserved
 loop-grown-preserved c =
@@ -28,14 +28,13 @@ loop-grown-preserved c =
     let l = c.loop-grown in
     let area = c.area in (
       omega arith,
-      grown_more p.1.1.1 l.invariant.1 (omega arith) (omega arith) (rw area.ensures at (c.siblings.ensures.are (not-false
-          _ c.if-not-siblings.false))),
+      grown_more p.size_le_levels.1 l.invariant.1 (omega arith) (omega arith) (rw area.ensures at (c.siblings.ensures.are (c.if-not-siblings.false))),
     )
 
 pub returns : goal.returns
 returns c =
     let l = c.loop-grown in
-    merged_top c.requires.1.1.1 l.invariant.1 l.invariant.0 (omega arith)
+    merged_top c.requires.size_le_levels.1 l.invariant.1 l.invariant.0 (omega arith)
 
 pub siblings-requires : goal.siblings-requires
 siblings-requires c =
@@ -43,7 +42,6 @@ siblings-requires c =
     let a = c.args in
     let pre = c.requires in
     let area = c.area in
-    let p = pre.1 in
     let e = area.ensures in
     record {
       long = omega arith;
@@ -51,9 +49,9 @@ siblings-requires c =
       room = omega (
         arith,
         sibling_room (tile a.corner a.size a.account)
-            l.grown p.1.1 (omega arith),
+            l.grown pre.size_le_levels.1 (omega arith),
       );
-      inside = omega (arith, p.0);
-      few = omega (arith, p.1.1.few);
-      low = p.0.1;
+      inside = omega (arith, pre.size_bound.0);
+      few = omega (arith, pre.size_le_levels.1.few);
+      low = pre.size_bound.1;
     }

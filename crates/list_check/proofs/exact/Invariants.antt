@@ -1,0 +1,15 @@
+-- The loop keeps `Going`: what is ahead is known, and the words from i on decide.
+use Prim.Native.Nat.{ℕ, ◌-◌, ◌≤◌}
+use native.Mathlib.Omega.{arith}
+use lib.ListN.{take, get_or}
+use lib.Seq.{length-take-le, get_or-take}
+use borrow.Author.Rules.{rules}
+use Rattle.list_check.specs.Pass.{Going}
+use Rattle.list_check.proofs.PassLaws.{going_end, going_on, going_stop}
+use Rattle.list_check.proofs.exact.Given as goal
+
+abbrev pub invariant-loop-i : goal.invariant-loop-i
+invariant-loop-i l = (l.i ≤ l.to) × ((x : ℕ) → Going l.order (take l.to l.slots) x l.initial.i l.initial.ahead → Going l.order (take l.to l.slots) x l.i l.ahead)
+
+abbrev pub decreases-loop-i : goal.decreases-loop-i
+decreases-loop-i l = l.to - l.i

@@ -1,0 +1,9 @@
+-- The byte at the row and the column.
+use borrow.Author.Rules.{rules}
+use mathlib.Core.Path.{refl}
+use Rattle.table.specs.Table.{says}
+use Rattle.table.proofs.at.Goals as goal
+
+pub returns : goal.returns
+unfolding says
+returns c = refl
