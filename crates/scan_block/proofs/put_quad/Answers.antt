@@ -1,6 +1,5 @@
 -- Four accounts that are the same are one tile, or nothing; else the four pixels go one behind the other.
 use Rattle.scan_block.proofs.Quads.{quad_skip, quad_put, quad_mixed}
-use mathlib.Core.Logic.{inl, inr}
 use Prim.Native.Nat.{◌-◌}
 use native.Mathlib.Omega.{arith}
 use borrow.Author.Rules.{rules}
@@ -32,8 +31,9 @@ returns c =
     let fourth = c.put_alone in
     quad_mixed _ _ _ _ _ _ _ _ _ _ _ _ _ _ _ _ pre.z_bound.1 pre.fits first.auto.slots second.auto.slots third.auto.slots first.ensures second.ensures third.ensures fourth.ensures
     (λ s. elim if1.branch [
-      | inl x ↦ x.2.left s.1.1
-      | inr x ↦ elim x [ inl y ↦ y.1.left s.1.0 | inr y ↦ y.left s.0 ]
+      | goal.then-a-b+then-b-c+else-c-d x ↦ x.if-c-d.false s.1.1
+      | goal.then-a-b+else-b-c x ↦ x.if-b-c.false s.1.0
+      | goal.else-a-b x ↦ x.if-a-b.false s.0
     ])
 
 pub put_same-requires : goal.put_same-requires

@@ -1,6 +1,5 @@
 -- All three tests passed: the accounts are the same. One of them failed: they are not.
 use Rattle.scan_stretch.proofs.Quads.{one_most, weight_same, weight_mixed}
-use mathlib.Core.Logic.{inl, inr}
 use native.Mathlib.Omega.{arith}
 use borrow.Author.Rules.{rules}
 use Rattle.scan_weigh.proofs.weigh.Goals as goal
@@ -20,8 +19,9 @@ returns c =
     let somebody3 = c.somebody-2 in
     let somebody4 = c.somebody-3 in
     rw (somebody3.ensures, somebody4.ensures, c.somebody-4.ensures, c.somebody-5.ensures) (weight_mixed args.a args.b args.c args.d (λ s. elim if1.branch [
-      | inl x ↦ x.2.left s.1.1
-      | inr x ↦ elim x [ inl y ↦ y.1.left s.1.0 | inr y ↦ y.left s.0 ]
+      | goal.then-a-b+then-b-c+else-c-d x ↦ x.if-c-d.false s.1.1
+      | goal.then-a-b+else-b-c x ↦ x.if-b-c.false s.1.0
+      | goal.else-a-b x ↦ x.if-a-b.false s.0
     ]))
 
 pub overflow_add-result : goal.overflow_add-result
