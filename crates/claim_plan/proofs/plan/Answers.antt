@@ -1,20 +1,24 @@
 -- The change, with its counts.
-use mathlib.Core.Path.{◌∙◌, sym}
+use mathlib.Core.Path.{◌≡◌, ◌∙◌, sym}
+use mathlib.Core.List.{List}
+use Prim.Native.Nat.{ℕ, ◌+◌, ◌-◌, ◌*◌, ◌≤◌}
 use native.Mathlib.Omega.{arith}
+use lib.ListN.{length}
 use lib.Seq.{length-take-le}
+use Rattle.tile.specs.Tile.{highest_order}
 use Rattle.tile.specs.Slots.{tiles_in}
 use Rattle.tile.proofs.SlotsLaws.{length_tiles_in}
+use Rattle.claim_plan.specs.Plan.{Changes, inner}
+use Rattle.claim_plan.specs.declared.Change.{Change}
 use Rattle.claim_plan.proofs.Counts.{changes_pieces, changes_tiles, Sums, changes_sums}
 use Rattle.claim_plan.proofs.plan.Goals as goal
 
 -- the numbers of the change
-sums : (c : tie.After-count-pieces) →
-    Sums c.before.before.before.before.before.args.tiles c.count-pieces.result c.before.before.find-change.result
+sums : {change : Change} {pieces order corner size account : ℕ} (tiles : ℕ) (slots : List ℕ) →
+    Changes order (tiles_in tiles slots) corner size account change → tiles ≤ length slots → order ≤ highest_order →
+    pieces ≡ 3 * (change.top - change.size) + inner account → Sums tiles pieces change
 unfolding tiles_in
-sums c =
-    let s = c.before.before.before.before.before in
-    changes_sums c.before.before.find-change.ensures s.args.tiles c.count-pieces.result (length_tiles_in s.args.tiles
-    s.args.slots.now s.requires.0) c.count-pieces.ensures s.requires.1.order
+sums tiles slots h l o e = changes_sums h tiles _ (length_tiles_in tiles slots l) e o
 
 pub slice_bounds-find_change-end : goal.slice_bounds-find_change-end
 slice_bounds-find_change-end c = sym (length-take-le c.args.tiles c.args.slots.now c.requires.0)
@@ -30,13 +34,13 @@ pub count_pieces-pieces-requires : goal.count_pieces-pieces-requires
 count_pieces-pieces-requires c = omega (arith, c.find_change-change.ensures.fits, c.requires.1.order)
 
 pub overflow_sub-left : goal.overflow_sub-left
-overflow_sub-left c = omega (arith, sums c)
+overflow_sub-left c = omega (arith, sums c.args.tiles c.args.slots.now c.find_change-change.ensures c.requires.0 c.requires.1.order c.count_pieces-pieces.ensures)
 
 pub overflow_add-result : goal.overflow_add-result
-overflow_add-result c = omega (arith, sums c, c.well-formed)
+overflow_add-result c = omega (arith, sums c.args.tiles c.args.slots.now c.find_change-change.ensures c.requires.0 c.requires.1.order c.count_pieces-pieces.ensures)
 
 pub overflow_add-result-2 : goal.overflow_add-result-2
-overflow_add-result-2 c = omega (arith, sums c, c.well-formed)
+overflow_add-result-2 c = omega (arith, sums c.args.tiles c.args.slots.now c.find_change-change.ensures c.requires.0 c.requires.1.order c.count_pieces-pieces.ensures)
 
 pub returns : goal.returns
 unfolding tiles_in

@@ -7,7 +7,7 @@ use Rattle.combine_walk.proofs.Walked.{step_more, run_other, run_all}
 use Rattle.combine_walk.proofs.next_run.Given as goal
 
 abbrev pub invariant-loop-stop : goal.invariant-loop-stop
-invariant-loop-stop l = StepOf (third_raster (rule_of l.choice) l.tiles1 l.slots1 l.tiles2 l.slots2) l.end l.tiles1 l.slots1 l.tiles2 l.slots2 l.z (record { l.account = l.account; l.stop = l.stop; l.first = l.first; l.second = l.second })
+invariant-loop-stop l = StepOf (third_raster (rule_of l.choice) l.tiles1 l.slots1 l.tiles2 l.slots2) l.end l.tiles1 l.slots1 l.tiles2 l.slots2 l.z (record { account = l.account; stop = l.stop; first = l.first; second = l.second })
 
 abbrev pub decreases-loop-stop : goal.decreases-loop-stop
 decreases-loop-stop l = l.end - l.stop
