@@ -34,12 +34,15 @@ pub count_pieces-pieces-requires : goal.count_pieces-pieces-requires
 count_pieces-pieces-requires c = omega (arith, c.find_change-change.ensures.fits, c.requires.1.order)
 
 pub overflow_sub-left : goal.overflow_sub-left
+unfolding tiles_in
 overflow_sub-left c = omega (arith, sums c.args.tiles c.args.slots.now c.find_change-change.ensures c.requires.0 c.requires.1.order c.count_pieces-pieces.ensures)
 
 pub overflow_add-result : goal.overflow_add-result
+unfolding tiles_in
 overflow_add-result c = omega (arith, sums c.args.tiles c.args.slots.now c.find_change-change.ensures c.requires.0 c.requires.1.order c.count_pieces-pieces.ensures)
 
 pub overflow_add-result-2 : goal.overflow_add-result-2
+unfolding tiles_in
 overflow_add-result-2 c = omega (arith, sums c.args.tiles c.args.slots.now c.find_change-change.ensures c.requires.0 c.requires.1.order c.count_pieces-pieces.ensures)
 
 pub returns : goal.returns
