@@ -7,15 +7,8 @@ use lib.ListN.{length-set, length, take, drop}
 use borrow.Author.Rules.{rules}
 use Rattle.tile.specs.Tile.{word_of}
 use Rattle.claim_split.specs.Split.{pieces}
-use Rattle.claim_store.proofs.Levels.{Turned, Putting, level, put_level, put_room, put_one, put_none}
+use Rattle.claim_store.proofs.Levels.{Putting, level, put_level, put_room, put_one, put_none}
 use Rattle.claim_store.proofs.write_pieces.Goals as goal
-
--- what is known at one level
-turn : (c : tie.After-area invariant-loop decreases-loop) →
-    let l = c.before.before.loop in
-    let a = c.before.before.before.before.before.args in
-    Turned (length l.slots) l.left a.change.size a.change.corner a.account a.change.owner l.s l.d c.area.result
-turn c = level c.before.before.loop.invariant.0 (omega arith) c.area.ensures
 
 pub loop-s-init : goal.loop-s-init
 loop-s-init c = (record { drawn = c.requires.0; end = omega (arith, c.requires.1); rest = refl }, refl)
@@ -23,11 +16,11 @@ loop-s-init c = (record { drawn = c.requires.0; end = omega (arith, c.requires.1
 pub loop-s-preserved : goal.loop-s-preserved
 loop-s-preserved c =
     let l = c.loop-s in
-    let write-equal2 = c.write_equal-in-loop-s in
-    let write-equal = c.write_equal in
+    let write_equal_2 = c.write_equal-in-loop-s in
+    let write_equal = c.write_equal in
     let area = c.area-area in
-    let q : length write-equal2.new.0 ≡ length l.slots = omega (arith, write-equal2.auto, write-equal.auto) in
-    (put_level l.invariant.0 (omega arith) area.ensures write-equal.ensures write-equal2.ensures q, q ∙ l.invariant.1)
+    let q : length write_equal_2.new.slots ≡ length l.slots = omega (arith, write_equal_2.auto, write_equal.auto) in
+    (put_level l.invariant.0 (omega arith) area.ensures write_equal.ensures write_equal_2.ensures q, q ∙ l.invariant.1)
 
 pub returns-then-account-ne0 : goal.returns-then-account-ne0
 returns-then-account-ne0 c =
@@ -47,42 +40,42 @@ pub overflow_sub-place : goal.overflow_sub-place
 overflow_sub-place c = omega (arith, c.loop-s.invariant.0.drawn.from)
 
 pub nonzero_div-place : goal.nonzero_div-place
-nonzero_div-place c = omega (arith, turn c)
+nonzero_div-place c = omega (arith, level c.loop-s.invariant.0 (omega arith) c.area-area.ensures)
 
 pub overflow_cast-before : goal.overflow_cast-before
-overflow_cast-before c = omega (arith, turn c)
+overflow_cast-before c = omega (arith, level c.loop-s.invariant.0 (omega arith) c.area-area.ensures)
 
 pub overflow_sub-after : goal.overflow_sub-after
-overflow_sub-after c = omega (arith, turn c)
+overflow_sub-after c = omega (arith, level c.loop-s.invariant.0 (omega arith) c.area-area.ensures)
 
 pub write_equal-requires : goal.write_equal-requires
 write_equal-requires c =
     let l = c.loop-s in
-    (omega (arith, (turn c).drawn.fits), (turn c).small, l.invariant.0.drawn.owner, (turn c).ahead)
+    (omega (arith, (level c.loop-s.invariant.0 (omega arith) c.area-area.ensures).drawn.fits), (level c.loop-s.invariant.0 (omega arith) c.area-area.ensures).small, l.invariant.0.drawn.owner, (level c.loop-s.invariant.0 (omega arith) c.area-area.ensures).ahead)
 
 pub overflow_mul-d : goal.overflow_mul-d
-overflow_mul-d c = omega (arith, turn c)
+overflow_mul-d c = omega (arith, level c.loop-s.invariant.0 (omega arith) c.area-area.ensures)
 
 pub overflow_add-d : goal.overflow_add-d
-overflow_add-d c = omega (arith, turn c)
+overflow_add-d c = omega (arith, level c.loop-s.invariant.0 (omega arith) c.area-area.ensures)
 
 pub overflow_sub-right : goal.overflow_sub-right
-overflow_sub-right c = omega (arith, turn c, c.loop-s.invariant.0.end)
+overflow_sub-right c = omega (arith, level c.loop-s.invariant.0 (omega arith) c.area-area.ensures, c.loop-s.invariant.0.end)
 
 pub overflow_add-d-in-loop-s : goal.overflow_add-d-in-loop-s
-overflow_add-d-in-loop-s c = omega (arith, turn c)
+overflow_add-d-in-loop-s c = omega (arith, level c.loop-s.invariant.0 (omega arith) c.area-area.ensures)
 
 pub write_equal-requires-in-loop-s : goal.write_equal-requires-in-loop-s
 write_equal-requires-in-loop-s c =
     let l = c.loop-s in (
-      omega (arith, turn c, (turn c).drawn.fits, l.invariant.0.end),
-      (turn c).small,
+      omega (arith, level c.loop-s.invariant.0 (omega arith) c.area-area.ensures, (level c.loop-s.invariant.0 (omega arith) c.area-area.ensures).drawn.fits, l.invariant.0.end),
+      (level c.loop-s.invariant.0 (omega arith) c.area-area.ensures).small,
       l.invariant.0.drawn.owner,
-      (turn c).behind,
+      (level c.loop-s.invariant.0 (omega arith) c.area-area.ensures).behind,
     )
 
 pub overflow_add-left : goal.overflow_add-left
-overflow_add-left c = omega (arith, (turn c).drawn)
+overflow_add-left c = omega (arith, (level c.loop-s.invariant.0 (omega arith) c.area-area.ensures).drawn)
 
 pub loop-s-smaller : goal.loop-s-smaller
 loop-s-smaller c = omega arith
