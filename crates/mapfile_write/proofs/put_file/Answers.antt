@@ -58,7 +58,7 @@ put_roster-requires c =
       p.1,
       p.2,
       p.3,
-      roster_room a.order a.tiles a.accounts a.slots.now a.file.now p.1 p.3 put-words.new.1.1.0
+      roster_room a.order a.tiles a.accounts a.slots.now a.file.now p.1 p.3 put-words.new.file
           (omega (arith, length-set a.file.now 0 a.order)) p.4,
     )
 
@@ -67,10 +67,10 @@ shape_of-file c =
     let a = c.args in
     let put-roster = c.put_roster in
     let put-words = c.put_words in
-    let b = put-words.new.1.1.0 in
+    let b = put-words.new.file in
     omega (
       arith,
-      part_same b put-roster.new.1.1.1.1.0 (5 + 4 * a.tiles) (roster_bytes (roster_of (tiles_in a.tiles a.slots.now)))
+      part_same b put-roster.new.section (5 + 4 * a.tiles) (roster_bytes (roster_of (tiles_in a.tiles a.slots.now)))
           put-roster.ensures,
       length-set a.file.now 0 a.order,
     )
