@@ -13,65 +13,64 @@ use Prim.Native.Nat.{ℕ, ◌+◌, ◌≤◌}
 use native.Mathlib.Omega.{arith}
 use lib.ListN.{length}
 use borrow.Author.Rules.{rules}
-use Rattle.part.proofs.inside.Statement.{statement}
-use Rattle.part.proofs.inside.Tie as tie
+use Rattle.part.proofs.inside.Goals as goal
 
 answer : {p q l m : ℕ} → p ≡ q → l ≡ m →
     ◌≡◌ {A = Part} (record { number = accepted; position = p; length = l }) (record { number = accepted; position = q; length = m })
 answer e h = cc
 
-ahead-requires : tie.Need-ahead-requires
-ahead-requires c κs =
-    let s = c.before in
+pub ahead-position-requires : goal.ahead-position-requires
+ahead-position-requires c =
+    let s = c in
     let b = part_check_passed s.requires.0 s.args.tiles s.args.slots.now s.args.corner s.args.size s.requires.1 in
     (b.count, (valid_linear b.valid).rising)
 
-area-requires : tie.Need-area-requires
-area-requires c κs =
-    let s = c.before.before in
+pub area-requires : goal.area-requires
+area-requires c =
+    let s = c in
     let b = part_check_passed s.requires.0 s.args.tiles s.args.slots.now s.args.corner s.args.size s.requires.1 in
     omega (arith, b.size, b.order)
 
-add-ahead : tie.Need-overflow-add-ahead
-add-ahead c =
-    let s = c.before.before.before in
+pub overflow_add-corner : goal.overflow_add-corner
+overflow_add-corner c =
+    let s = c in
     let b = part_check_passed s.requires.0 s.args.tiles s.args.slots.now s.args.corner s.args.size s.requires.1 in
     let l : 4 ^ s.requires.0 ≤ 4 ^ highest_order = area_mono b.order in
     let g : 4 ^ s.args.size ≤ 4 ^ s.requires.0 = area_mono b.size in
     omega (arith, b.inside, c.area.ensures)
 
-ahead-requires-2 : tie.Need-ahead-requires-2
-ahead-requires-2 c κs =
-    let s = c.before.before.before in
+pub ahead-end-requires : goal.ahead-end-requires
+ahead-end-requires c =
+    let s = c in
     let b = part_check_passed s.requires.0 s.args.tiles s.args.slots.now s.args.corner s.args.size s.requires.1 in
     (b.count, (valid_linear b.valid).rising)
 
-returns : tie.Need-returns
-returns c =
-    let ahead = c.before.before.before.ahead in
-    let s = c.before.before.before.before.before in
+pub returns-then-end-position : goal.returns-then-end-position
+returns-then-end-position c =
+    let ahead = c.ahead-position in
+    let s = c in
     answer ahead.ensures (inside_none (part_check_passed s.requires.0 s.args.tiles s.args.slots.now s.args.corner s.args.size
-    s.requires.1) ahead.result c.before.ahead2.result ahead.ensures (c.before.ahead2.ensures ∙ ap (λ (x : ℕ). counted (is_ahead
-    (s.args.corner + x)) (tiles_in s.args.tiles s.args.slots.now)) c.before.before.area.ensures) c.if1.true)
+    s.requires.1) ahead.result c.ahead-end.result ahead.ensures (c.ahead-end.ensures ∙ ap (λ (x : ℕ). counted (is_ahead
+    (s.args.corner + x)) (tiles_in s.args.tiles s.args.slots.now)) c.area.ensures) c.if-end-position.true)
 
-mul-size : tie.Need-overflow-mul-size
-mul-size c =
-    let ahead = c.before.before.before.ahead in
-    let s = c.before.before.before.before.before in
+pub offset_bounds-slots-position : goal.offset_bounds-slots-position
+offset_bounds-slots-position c =
+    let ahead = c.ahead-position in
+    let s = c in
     let b = part_check_passed s.requires.0 s.args.tiles s.args.slots.now s.args.corner s.args.size s.requires.1 in
     omega (
       arith,
       b.count,
-      to_le b ahead.result c.before.ahead2.result ahead.ensures (c.before.ahead2.ensures ∙ ap (λ (x : ℕ). counted
-          (is_ahead (s.args.corner + x)) (tiles_in s.args.tiles s.args.slots.now)) c.before.before.area.ensures),
+      to_le b ahead.result c.ahead-end.result ahead.ensures (c.ahead-end.ensures ∙ ap (λ (x : ℕ). counted
+          (is_ahead (s.args.corner + x)) (tiles_in s.args.tiles s.args.slots.now)) c.area.ensures),
     )
 
-shared-slice-read-size : tie.Need-shared-slice-read-size
-shared-slice-read-size c =
-    let ahead = c.before.before.before.before.ahead in
-    let ahead2 = c.before.before.ahead2 in
-    let area = c.before.before.before.area in
-    let s = c.before.before.before.before.before.before in
+pub bounds-slots-position : goal.bounds-slots-position
+bounds-slots-position c =
+    let ahead = c.ahead-position in
+    let ahead2 = c.ahead-end in
+    let area = c.area in
+    let s = c in
     let b = part_check_passed s.requires.0 s.args.tiles s.args.slots.now s.args.corner s.args.size s.requires.1 in
     omega (
       arith,
@@ -80,29 +79,24 @@ shared-slice-read-size c =
           (s.args.corner + x)) (tiles_in s.args.tiles s.args.slots.now)) area.ensures),
     )
 
-returns-2 : tie.Need-returns-2
-returns-2 c =
-    let ahead = c.before.before.before.before.before.before.ahead in
-    let ahead2 = c.before.before.before.before.ahead2 in
-    let area = c.before.before.before.before.before.area in
-    let if1 = c.before.before.before.if1 in
-    let s = c.before.before.before.before.before.before.before.before in
+pub returns-then-size : goal.returns-then-size
+returns-then-size c =
+    let ahead = c.ahead-position in
+    let ahead2 = c.ahead-end in
+    let area = c.area in
+    let if1 = c.if-end-position in
+    let s = c in
     answer ahead.ensures (inside_large (part_check_passed s.requires.0 s.args.tiles s.args.slots.now s.args.corner s.args.size
     s.requires.1) ahead.result ahead2.result ahead.ensures (ahead2.ensures ∙ ap (λ (x : ℕ). counted (is_ahead (s.args.corner + x)) (tiles_in
-    s.args.tiles s.args.slots.now)) area.ensures) if1.false (omega (arith, c.before.size.ensures)))
+    s.args.tiles s.args.slots.now)) area.ensures) if1.false (omega (arith, c.size.ensures)))
 
-returns-3 : tie.Need-returns-3
-returns-3 c =
-    let ahead = c.before.before.before.before.before.before.ahead in
-    let ahead2 = c.before.before.before.before.ahead2 in
-    let area = c.before.before.before.before.before.area in
-    let if1 = c.before.before.before.if1 in
-    let s = c.before.before.before.before.before.before.before.before in
+pub returns : goal.returns
+returns c =
+    let ahead = c.ahead-position in
+    let ahead2 = c.ahead-end in
+    let area = c.area in
+    let if1 = c.if-end-position in
+    let s = c in
     answer ahead.ensures (inside_rest (part_check_passed s.requires.0 s.args.tiles s.args.slots.now s.args.corner s.args.size
     s.requires.1) ahead.result ahead2.result ahead.ensures (ahead2.ensures ∙ ap (λ (x : ℕ). counted (is_ahead (s.args.corner + x)) (tiles_in
-    s.args.tiles s.args.slots.now)) area.ensures) if1.false (omega (arith, c.before.size.ensures)))
-
-pub inside_spec : {M : Type 1} → statement M
-inside_spec =
-    tie.close (tie.spec ahead-requires area-requires add-ahead ahead-requires-2 returns mul-size shared-slice-read-size (λ c κs. search rules)
-    returns-2 (λ c. search rules) returns-3)
+    s.args.tiles s.args.slots.now)) area.ensures) if1.false (omega (arith, c.size.ensures)))
