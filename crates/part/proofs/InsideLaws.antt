@@ -76,6 +76,7 @@ first_at d c (link {t = t} {ts = ts} h r) (Memᴰ.head e) q =
     let p : t.corner ≡ c = ap (λ (x : Tile). x.corner) (sym e) ∙ q in
     rw (ahead_none c (link {lo = t.corner} {t = t} (omega arith) r) (omega arith)) (sym e)
 first_at d c (link {t = t} {ts = ts} h r) (Memᴰ.tail i) q = rw (counted_yes (test_ahead c) t ts (omega (arith, rising_from r i))) (first_at d c r i q)
+first_at {u = u} d c (Rattle.quadtree.specs.Quadtree.end {lo = lo}) x7 q = elim x7 [ ]
 
 -- a tile that starts in a block and is larger starts at its corner
 larger_corner : {j k x c : ℕ} → k ≤ j → Aligned j x → Aligned k c → c ≤ x → x < c + 4 ^ k → x ≡ c

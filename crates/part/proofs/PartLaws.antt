@@ -54,6 +54,7 @@ module _ {g : Tile → Bool} {P : Tile → Type 0} (test : (u : Tile) → Test (
       go : {b : Bool} → Test (P w) b → u ∈ kept g us → u ∈ kept g (w ∷ us)
       go (holds q) m = rw (kept_yes w us q) (Memᴰ.tail m)
       go (fails q) m = rw (kept_no w us q) m
+  member_kept [] {u = u} x'' p = elim x'' [ ]
 
   kept_member : (us : List Tile) {u : Tile} → u ∈ kept g us → (u ∈ us) × P u
   unfolding kept
@@ -66,6 +67,7 @@ module _ {g : Tile → Bool} {P : Tile → Type 0} (test : (u : Tile) → Test (
           first (Memᴰ.head e) f = (Memᴰ.head e, rw e q)
           first (Memᴰ.tail i) f = (Memᴰ.tail (f i).0, (f i).1)
       go (fails q) ih = let f = ih (rw (kept_no w us q) at m) in (Memᴰ.tail f.0, f.1)
+  kept_member [] {u = u} m = elim m [ ]
 
   pub kept_in : (us : List Tile) (u : Tile) → (u ∈ kept g us) ↔ ((u ∈ us) × P u)
   kept_in us u = (λ m. kept_member us m, λ p. member_kept us p.0 p.1)

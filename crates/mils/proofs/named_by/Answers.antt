@@ -35,5 +35,5 @@ slice_bounds-value_from-end c =
 pub slice_bounds-value_from-count : goal.slice_bounds-value_from-count
 slice_bounds-value_from-count c = omega (arith, (formed c.args.text.now c.requires).short)
 
-pub slice-bounds-value-from-start : goal.slice-bounds-value-from-start
-slice-bounds-value-from-start c = omega (arith, (formed c.args.text.now c.requires).short)
+pub slice_bounds-value_from-start : goal.slice_bounds-value_from-start
+slice_bounds-value_from-start c = omega (arith, (formed c.args.text.now c.requires).short)

@@ -24,7 +24,7 @@ returns-then-coordinate-ne-ACCEPTED c =
     let o = w in
     let a = o.args in
     pixel_of_off a.order a.text.now (sym o.order-number.ensures ∙ w.if-number-ne-ACCEPTED.false)
-    (sym w.well_formed-2.ensures ∙ c.if-not-well_formed.false) _ (ap pixel_at c.Named-by.ensures.0)
+    (sym w.well_formed-2.ensures ∙ c.if-not-well_formed.false) _ (ap pixel_at c.named_by.ensures.0)
     (coordinate_refused a.order _ (λ z. c.if-coordinate-ne-ACCEPTED.true (c.coordinate.ensures ∙ z)))
 
 pub returns : goal.returns
@@ -33,7 +33,7 @@ returns c =
     let o = w in
     let a = o.args in
     pixel_of_on a.order a.text.now (sym o.order-number.ensures ∙ w.if-number-ne-ACCEPTED.false)
-    (sym w.well_formed-2.ensures ∙ c.if-not-well_formed.false) _ (ap pixel_at c.Named-by.ensures.0)
+    (sym w.well_formed-2.ensures ∙ c.if-not-well_formed.false) _ (ap pixel_at c.named_by.ensures.0)
     (coordinate_passed a.order _ (sym c.coordinate.ensures ∙ c.if-coordinate-ne-ACCEPTED.false))
 
 pub named_by-requires : goal.named_by-requires
@@ -46,4 +46,4 @@ coordinate-requires c =
 
 -- at most 9,999,999 times 127
 pub overflow_mul-pixel : goal.overflow_mul-pixel
-overflow_mul-pixel c = omega (arith, c.Named-by.ensures.1)
+overflow_mul-pixel c = omega (arith, c.named_by.ensures.1)

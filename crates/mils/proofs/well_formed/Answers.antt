@@ -25,7 +25,7 @@ returns-then-needless_zero c =
 pub returns-then-not-digits_only : goal.returns-then-not-digits_only
 returns-then-not-digits_only c =
     not_formed c.args.text.now (λ f.
-    let e : true ≡ false = sym f.whole ∙ (sym c.digits_only_lem.ensures ∙ c.if-not-digits_only.true) in
+    let e : true ≡ false = sym f.whole ∙ (sym c.digits_only.ensures ∙ c.if-not-digits_only.true) in
     let z : ◌≡◌ {A = ℕ} 0 1 = cc in omega arith)
 
 pub returns : goal.returns
@@ -36,7 +36,7 @@ returns c =
     let text = read.args.text.now in
     c.digits_only-2.ensures
     ∙ formed_last text (omega arith) (omega arith) read.if-text-at-ne-POINT.false (sym zero.needless_zero.ensures ∙ whole.if-needless_zero.false)
-    (sym whole.digits_only_lem.ensures ∙ c.if-not-digits_only.false)
+    (sym whole.digits_only.ensures ∙ c.if-not-digits_only.false)
 
 pub slice_bounds-digits_only-end : goal.slice_bounds-digits_only-end
 slice_bounds-digits_only-end c = sym (whole_length c.args.text.now (omega arith))

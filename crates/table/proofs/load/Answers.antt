@@ -18,7 +18,7 @@ slice_bounds-put_all-count c =
     let a = c.args in
     load_check_some a.file.now (length a.table.now) (omega (arith, c.load_check-number.ensures))
 
-pub slice-bounds-put-all-start : goal.slice-bounds-put-all-start
-slice-bounds-put-all-start c =
+pub slice_bounds-put_all-start : goal.slice_bounds-put_all-start
+slice_bounds-put_all-start c =
     let a = c.args in
     load_check_some a.file.now (length a.table.now) (omega (arith, c.load_check-number.ensures))

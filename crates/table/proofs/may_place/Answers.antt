@@ -19,11 +19,11 @@ returns c =
 pub offset_bounds-class : goal.offset_bounds-class
 offset_bounds-class c = let a = c.args in omega (arith, c.class_of-class.ensures, row_of_lt (class_of a.asking))
 
-pub bounds-1-result : goal.bounds-1-result
-bounds-1-result c = let a = c.args in omega (arith, c.class_of-class.ensures, row_of_lt (class_of a.asking))
+pub bounds-class : goal.bounds-class
+bounds-class c = let a = c.args in omega (arith, c.class_of-class.ensures, row_of_lt (class_of a.asking))
 
-pub bounds-2-result : goal.bounds-2-result
-bounds-2-result c = let a = c.args in omega (arith, c.pixel_kind-kind.ensures, pixel_kind_lt a.asking a.holder)
+pub bounds-kind : goal.bounds-kind
+bounds-kind c = let a = c.args in omega (arith, c.pixel_kind-kind.ensures, pixel_kind_lt a.asking a.holder)
 
 pub at-requires : goal.at-requires
 at-requires c =

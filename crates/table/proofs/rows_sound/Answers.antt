@@ -1,7 +1,6 @@
 -- The definition's tests in their order.
 use mathlib.Core.Path.{sym, ◌∙◌}
 use borrow.Author.Rules.{rules}
-use borrow.Author.Tests.{not-true, not-false}
 use Rattle.table.specs.Table.{row_of}
 use Rattle.table.specs.Load.{sound}
 use Rattle.table.proofs.LoadLaws.{sound_rest}
@@ -16,7 +15,7 @@ unfolding sound row_of
 returns-then-not-at-2 c =
     let second = c in
     let first = second in
-    simp (sym first.at.ensures ∙ not-false _ second.if-not-at.false, sym second.at-2.ensures ∙ c.if-not-at-2.true)
+    simp (sym first.at.ensures ∙ second.if-not-at.false, sym second.at-2.ensures ∙ c.if-not-at-2.true)
 
 pub returns-then-not-at-3 : goal.returns-then-not-at-3
 unfolding sound row_of
@@ -25,8 +24,8 @@ returns-then-not-at-3 c =
     let second = third in
     let first = second in
     simp (
-      sym first.at.ensures ∙ not-false _ second.if-not-at.false,
-      sym second.at-2.ensures ∙ not-false _ third.if-not-at-2.false,
+      sym first.at.ensures ∙ second.if-not-at.false,
+      sym second.at-2.ensures ∙ third.if-not-at-2.false,
       sym third.at-3.ensures ∙ c.if-not-at-3.true,
     )
 
@@ -38,9 +37,9 @@ returns-then-not-has_every c =
     let second = third in
     let first = second in
     simp (
-      sym first.at.ensures ∙ not-false _ second.if-not-at.false,
-      sym second.at-2.ensures ∙ not-false _ third.if-not-at-2.false,
-      sym third.at-3.ensures ∙ not-false _ rows.if-not-at-3.false,
+      sym first.at.ensures ∙ second.if-not-at.false,
+      sym second.at-2.ensures ∙ third.if-not-at-2.false,
+      sym third.at-3.ensures ∙ rows.if-not-at-3.false,
       sym rows.has_every.ensures ∙ c.if-not-has_every.true,
     )
 
@@ -52,6 +51,6 @@ returns c =
     let second = third in
     let first = second in
     c.has_every-2.ensures
-    ∙ sound_rest first.args.table.now (sym first.at.ensures ∙ not-false _ second.if-not-at.false)
-    (sym second.at-2.ensures ∙ not-false _ third.if-not-at-2.false) (sym third.at-3.ensures ∙ not-false _ rows.if-not-at-3.false)
+    ∙ sound_rest first.args.table.now (sym first.at.ensures ∙ second.if-not-at.false)
+    (sym second.at-2.ensures ∙ third.if-not-at-2.false) (sym third.at-3.ensures ∙ rows.if-not-at-3.false)
     (sym rows.has_every.ensures ∙ c.if-not-has_every.false)

@@ -1,0 +1,6 @@
+-- Field by field.
+use borrow.Author.Rules.{rules}
+use Rattle.lookup.proofs.tile_found.Goals as goal
+
+pub returns : goal.returns
+returns c = rw (c.account.ensures, c.corner.ensures, c.size.ensures)
