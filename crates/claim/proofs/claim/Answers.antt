@@ -1,6 +1,5 @@
 -- The outcome, and where it fits room, the tiles, zeros.
 use native.Mathlib.Omega.{arith}
-use borrow.Author.Rules.{rules}
 use Rattle.claim.proofs.Refusals.{claim_of_refused}
 use Rattle.claim.proofs.Whole.{ends_refused, ends_fits, bounds, known_drawn, known_done}
 use Rattle.claim.proofs.claim.Goals as goal

@@ -3,7 +3,6 @@ use mathlib.Core.Path.{◌≡◌, ◌∙◌, sym}
 use mathlib.Core.List.{List}
 use Prim.Native.Nat.{ℕ}
 use native.Mathlib.Omega.{arith}
-use borrow.Author.Rules.{rules}
 use Rattle.refusal.specs.Refusal.{accepted}
 use Rattle.tile.specs.Slots.{tiles_in}
 use Rattle.bed.specs.declared.Scan.{Scan}

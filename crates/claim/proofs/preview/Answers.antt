@@ -1,6 +1,5 @@
 -- The outcome's answer.
 use mathlib.Core.Path.{◌∙◌, ap}
-use borrow.Author.Rules.{rules}
 use Rattle.refusal.specs.Checks.{After}
 use Rattle.claim.specs.declared.Claimed.{Claimed}
 use Rattle.claim.proofs.Refusals.{claim_of_refused}

@@ -1,6 +1,5 @@
 -- Room on both sides, then the siblings ahead and those behind.
 use native.Mathlib.Omega.{arith}
-use borrow.Author.Rules.{rules}
 use Rattle.quadtree.proofs.Alignment.{area_pos}
 use Rattle.claim_merge.proofs.SiblingsBeside.{beside_few, beside_end, beside_ahead, beside_behind, rooms}
 use Rattle.claim_merge.proofs.beside.Goals as goal

@@ -1,13 +1,8 @@
 -- While the three siblings stand beside the tile, its parent takes their place.
-use mathlib.Core.List.{map}
-use Prim.Native.Nat.{◌+◌, ◌-◌}
 use native.Mathlib.Omega.{arith}
-use lib.ListN.{length-map, length}
+use lib.ListN.{length-map}
 use Rattle.tile.specs.Tile.{tile_of}
-use Rattle.quadtree.specs.Raster.{account_at}
 use Rattle.basics.proofs.Tests.{told_true, told_false}
-use Rattle.bed.specs.Bed.{claimed}
-use Rattle.claim_merge.specs.Standing.{Stands}
 use Rattle.claim_merge.proofs.MergeTurns.{stands_turn, stands_block, stands_up, stands_merges}
 use Rattle.claim_merge.proofs.merge.Goals as goal
 

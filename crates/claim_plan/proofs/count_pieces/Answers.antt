@@ -1,6 +1,5 @@
 -- Three tiles for each level, and the inner block's own.
 use native.Mathlib.Omega.{arith}
-use borrow.Author.Rules.{rules}
 use Rattle.claim_plan.proofs.Counts.{inner_none, inner_one}
 use Rattle.claim_plan.proofs.count_pieces.Goals as goal
 

@@ -1,6 +1,5 @@
 -- Each test is one of the three facts.
 use native.Mathlib.Omega.{arith}
-use borrow.Author.Rules.{rules}
 use Rattle.basics.proofs.Tests.{holds, fails}
 use Rattle.claim_plan.proofs.covered.Goals as goal
 

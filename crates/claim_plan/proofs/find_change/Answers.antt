@@ -1,7 +1,6 @@
 -- The tile at lo covers the block; or it is released; or a tile of its size is merged.
 use Prim.Native.Nat.{◌^◌, ◌≤◌}
 use native.Mathlib.Omega.{arith}
-use borrow.Author.Rules.{rules}
 use Rattle.tile.specs.Tile.{highest_order}
 use Rattle.quadtree.proofs.Alignment.{area_mono}
 use Rattle.basics.proofs.Tests.{told_true, told_false}

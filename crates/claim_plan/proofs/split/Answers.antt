@@ -1,5 +1,4 @@
 -- The tile at lo is kept or split, by its account.
-use borrow.Author.Rules.{rules}
 use Rattle.claim_plan.proofs.Searches.{covered_kept, covered_split}
 use Rattle.claim_plan.proofs.split.Goals as goal
 

@@ -2,7 +2,6 @@
 use Prim.Native.Nat.{◌+◌, ◌-◌}
 use native.Mathlib.Omega.{arith}
 use lib.ListN.{drop}
-use borrow.Author.Rules.{rules}
 use Rattle.claim_store.proofs.Room.{opened, opened_already}
 use Rattle.claim_store.proofs.make_room.Goals as goal
 

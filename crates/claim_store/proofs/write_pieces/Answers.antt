@@ -1,13 +1,8 @@
 -- Level by level: what is left to write makes the slots that are promised.
-use mathlib.Core.List.{map, ◌++◌}
 use mathlib.Core.Path.{◌≡◌, ◌∙◌, refl}
-use Prim.Native.Nat.{◌+◌, ◌-◌}
 use native.Mathlib.Omega.{arith}
-use lib.ListN.{length-set, length, take, drop}
-use borrow.Author.Rules.{rules}
-use Rattle.tile.specs.Tile.{word_of}
-use Rattle.claim_split.specs.Split.{pieces}
-use Rattle.claim_store.proofs.Levels.{Putting, level, put_level, put_room, put_one, put_none}
+use lib.ListN.{length-set, length}
+use Rattle.claim_store.proofs.Levels.{level, put_level, put_room, put_one, put_none}
 use Rattle.claim_store.proofs.write_pieces.Goals as goal
 
 pub loop-s-init : goal.loop-s-init

@@ -1,13 +1,11 @@
 -- Level by level: what is left to write makes the slots that are promised.
 use mathlib.Core.List.{map, ◌++◌}
-use mathlib.Core.Path.{◌≡◌, ◌∙◌, refl}
+use mathlib.Core.Path.{◌≡◌}
 use Prim.Native.Nat.{◌+◌, ◌-◌}
-use native.Mathlib.Omega.{arith}
-use lib.ListN.{length-set, length, take, drop}
-use borrow.Author.Rules.{rules}
+use lib.ListN.{length, take, drop}
 use Rattle.tile.specs.Tile.{word_of}
 use Rattle.claim_split.specs.Split.{pieces}
-use Rattle.claim_store.proofs.Levels.{Turned, Putting, level, put_level, put_room, put_one, put_none}
+use Rattle.claim_store.proofs.Levels.{Putting}
 use Rattle.claim_store.proofs.write_pieces.Given as goal
 
 abbrev pub invariant-loop-s : goal.invariant-loop-s

@@ -2,7 +2,6 @@
 use mathlib.Core.Path.{◌∙◌, sym}
 use native.Mathlib.Omega.{arith}
 use Rattle.combine.proofs.CombineLaws.{maps_passed, combine_by_refused, combine_by_slots, combine_by_done}
-use borrow.Author.Rules.{rules}
 use Rattle.combine.proofs.combine.Goals as goal
 
 pub returns-then-checked-ne-ACCEPTED : goal.returns-then-checked-ne-ACCEPTED

@@ -1,10 +1,8 @@
 -- Run by run: what is left of the linear quadtree makes the count.
 use Prim.Native.Nat.{◌-◌, ◌<◌}
-use native.Mathlib.Omega.{arith}
 use Rattle.combine_rule.specs.Rule.{rule_of, third_raster}
 use Rattle.combine_walk.specs.Walk.{StepOf}
-use Rattle.list_cut.proofs.Passes.{run_room, Counted, counted_start, counted_all, counted_room, counted_run}
-use Rattle.combine.proofs.CombineLaws.{maps_start}
+use Rattle.list_cut.proofs.Passes.{Counted}
 use Rattle.combine.proofs.count.Given as goal
 
 abbrev pub invariant-loop-z : goal.invariant-loop-z

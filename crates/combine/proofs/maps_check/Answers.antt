@@ -1,7 +1,6 @@
 -- The first map's list, the second's, then the orders.
 use mathlib.Core.Path.{◌∙◌, sym}
 use native.Mathlib.Omega.{arith}
-use borrow.Author.Rules.{rules}
 use Rattle.combine.proofs.CombineLaws.{maps_first, maps_second, maps_orders, maps_accepted}
 use Rattle.combine.proofs.maps_check.Goals as goal
 

@@ -1,10 +1,8 @@
 -- Run by run: what is left of the linear quadtree makes the slots that are promised.
 use Prim.Native.Nat.{◌-◌, ◌<◌}
-use native.Mathlib.Omega.{arith}
 use Rattle.combine_rule.specs.Rule.{rule_of, third_raster}
 use Rattle.combine_walk.specs.Walk.{StepOf}
-use Rattle.list_cut.proofs.Passes.{run_room, Written, written_start, written_all, written_room, written_run}
-use Rattle.combine.proofs.CombineLaws.{maps_start}
+use Rattle.list_cut.proofs.Passes.{Written}
 use Rattle.combine.proofs.write.Given as goal
 
 abbrev pub invariant-loop-z : goal.invariant-loop-z

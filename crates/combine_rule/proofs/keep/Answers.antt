@@ -1,7 +1,6 @@
 -- The rule by its cases.
 use native.Mathlib.Omega.{arith}
 use Rattle.combine_rule.proofs.RuleCases.{inside_held, inside_free, outside_free, outside_held}
-use borrow.Author.Rules.{rules}
 use Rattle.combine_rule.proofs.keep.Goals as goal
 
 pub returns-then-b-eq0 : goal.returns-then-b-eq0

@@ -1,8 +1,5 @@
 -- Stretches of one account join, until another account or the bed's end.
-use Prim.Native.Nat.{◌-◌}
 use native.Mathlib.Omega.{arith}
-use Rattle.combine_rule.specs.Rule.{rule_of, third_raster}
-use Rattle.combine_walk.specs.Walk.{StepOf}
 use Rattle.combine_walk.proofs.Walked.{step_more, run_other, run_all}
 use Rattle.combine_walk.proofs.next_run.Goals as goal
 

@@ -1,7 +1,6 @@
 -- Two stretches together: `both_step`, of any rule.
 use Rattle.combine_rule.specs.Rule.{rule_of}
 use Rattle.combine_walk.proofs.Walked.{both_step}
-use borrow.Author.Rules.{rules}
 use Rattle.combine_walk.proofs.next_step.Goals as goal
 
 pub returns : goal.returns
