@@ -4,7 +4,6 @@ use Prim.Native.Nat.{◌+◌, ◌*◌}
 use native.Mathlib.Omega.{arith}
 use lib.ListN.{length}
 use borrow.Author.Tests.{lt-leb, le-leb}
-use borrow.Author.Rules.{rules}
 use Rattle.refusal.specs.Checks.{must, or_else}
 use Rattle.refusal.proofs.CheckLaws.{else_off}
 use Rattle.mapfile_entries.specs.RosterCheck.{roster_check}
@@ -59,12 +58,12 @@ roster_good-good-requires c =
     let e = sym c.entries_rise-number.ensures ∙ c.if-number-ne-ACCEPTED.false in
     let a = c.args in
     let long = c.long-entries in
-    let bytes = c.shared_slice_known-3-1 in (
+    (
       p.0,
       p.1,
       p.2,
       p.3,
-      omega (arith, long.ensures, c.wide.ensures, bytes.given 0),
+      omega (arith, long.ensures, c.wide.ensures, c.type_inv.section 0),
       rise_room long.result 0 a.section.now 1 (omega arith) e,
       e,
     )

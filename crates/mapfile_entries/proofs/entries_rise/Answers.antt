@@ -1,9 +1,5 @@
 -- The entries left decide.
-use mathlib.Core.Path.{◌≡◌}
-use Prim.Native.Nat.{◌+◌, ◌-◌, ◌*◌, ◌≤◌}
 use native.Mathlib.Omega.{arith}
-use lib.ListN.{length}
-use Rattle.mapfile_entries.specs.RosterCheck.{entries_check}
 use Rattle.mapfile_entries.proofs.EntriesInTurn.{rise_start, rise_cut, rise_low, rise_on, rise_end}
 use borrow.Author.Rules.{rules}
 use Rattle.mapfile_entries.proofs.entries_rise.Goals as goal
@@ -43,5 +39,4 @@ returns c =
 
 pub overflow_add-least : goal.overflow_add-least
 overflow_add-least c =
-    let bytes = c.shared_slice_known-1 in
-    omega (arith, c.wide-account.ensures, bytes.given c.loop-j.p)
+    omega (arith, c.wide-account.ensures, c.type_inv.section c.loop-j.p)

@@ -1,11 +1,8 @@
 -- The entries left decide.
 use mathlib.Core.Path.{◌≡◌}
 use Prim.Native.Nat.{◌+◌, ◌-◌, ◌*◌, ◌≤◌}
-use native.Mathlib.Omega.{arith}
 use lib.ListN.{length}
 use Rattle.mapfile_entries.specs.RosterCheck.{entries_check}
-use Rattle.mapfile_entries.proofs.EntriesInTurn.{rise_start, rise_cut, rise_low, rise_on, rise_end}
-use borrow.Author.Rules.{rules}
 use Rattle.mapfile_entries.proofs.entries_rise.Given as goal
 
 abbrev pub invariant-loop-j : goal.invariant-loop-j

@@ -1,9 +1,6 @@
 -- The pixels summed and those of the entries left make the whole; each number is below 2 ^ 32.
-use mathlib.Core.Path.{◌≡◌, ◌∙◌}
-use Prim.Native.Nat.{◌+◌, ◌-◌, ◌*◌, ◌^◌, ◌≤◌}
+use mathlib.Core.Path.{◌∙◌}
 use native.Mathlib.Omega.{arith}
-use Rattle.mapfile_entries.specs.RosterCheck.{entries_at}
-use Rattle.mapfile_entries.specs.Pixels.{pixels_in}
 use Rattle.mapfile_entries.proofs.EntriesInTurn.{sum_start, sum_on, sum_end}
 use borrow.Author.Rules.{rules}
 use Rattle.mapfile_entries.proofs.entries_sum.Goals as goal

@@ -4,7 +4,6 @@ use native.Mathlib.Omega.{arith}
 use borrow.Author.Tests.{lt-leb, eq-eqb, ne_eqb}
 use Rattle.mapfile_entries.specs.Pixels.{entry_right}
 use Rattle.mapfile_entries.proofs.EntriesInTurn.{right_some}
-use borrow.Author.Rules.{rules}
 use Rattle.mapfile_entries.proofs.entry_right.Goals as goal
 
 pub returns-then-pixels-eq0 : goal.returns-then-pixels-eq0

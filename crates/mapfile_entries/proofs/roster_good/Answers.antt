@@ -7,7 +7,6 @@ use Rattle.tile.specs.Tile.{tile_of}
 use Rattle.mapfile_bytes.specs.Items.{words_at}
 use Rattle.mapfile_entries.proofs.Summed.{good_summed}
 use Rattle.mapfile_entries.proofs.EntriesInTurn.{rise_rising}
-use borrow.Author.Rules.{rules}
 use Rattle.mapfile_entries.proofs.roster_good.Goals as goal
 
 pub returns-then-entries_sum-long : goal.returns-then-entries_sum-long

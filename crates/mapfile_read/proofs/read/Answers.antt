@@ -1,5 +1,4 @@
 -- A refusal leaves before any store; an accepted file has room for what is read of it.
-use borrow.Author.Rules.{rules}
 use Rattle.mapfile_read.proofs.Examining.{read_refused, read_room, read_stored}
 use Rattle.mapfile_read.proofs.ReadStores.{store_room}
 use Rattle.mapfile_read.proofs.read.Goals as goal

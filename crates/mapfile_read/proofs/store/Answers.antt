@@ -3,10 +3,8 @@ use Rattle.mapfile_bytes.specs.Items.{word_at, words_at}
 use Rattle.mapfile_bytes.proofs.ItemsLaws.{words_at_length, words_at_at}
 use Rattle.mapfile_read.proofs.ReadStores.{store_on, store_end}
 use mathlib.Core.Path.{◌≡◌, ◌∙◌, refl, ap, sym}
-use Prim.Native.Nat.{◌+◌, ◌-◌, ◌*◌, ◌≤◌}
-use mathlib.Core.List.{◌++◌}
 use native.Mathlib.Omega.{arith}
-use lib.ListN.{length, take, drop, get_or}
+use lib.ListN.{get_or}
 use borrow.Author.Rules.{rules}
 use Rattle.mapfile_read.proofs.store.Goals as goal
 

@@ -1,13 +1,9 @@
 -- The words in front are the file's, those behind are untouched.
-use Rattle.mapfile_bytes.specs.Items.{word_at, words_at}
-use Rattle.mapfile_bytes.proofs.ItemsLaws.{words_at_length, words_at_at}
-use Rattle.mapfile_read.proofs.ReadStores.{store_on, store_end}
-use mathlib.Core.Path.{◌≡◌, ◌∙◌, refl, ap, sym}
+use Rattle.mapfile_bytes.specs.Items.{words_at}
+use mathlib.Core.Path.{◌≡◌}
 use Prim.Native.Nat.{◌+◌, ◌-◌, ◌*◌, ◌≤◌}
 use mathlib.Core.List.{◌++◌}
-use native.Mathlib.Omega.{arith}
-use lib.ListN.{length, take, drop, get_or}
-use borrow.Author.Rules.{rules}
+use lib.ListN.{length, take, drop}
 use Rattle.mapfile_read.proofs.store.Given as goal
 
 abbrev pub invariant-loop-i : goal.invariant-loop-i

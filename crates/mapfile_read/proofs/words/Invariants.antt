@@ -1,10 +1,7 @@
 -- The loop keeps `Going`: what is ahead is known, with its pixels, and the words from i on decide.
-use Rattle.mapfile_read.proofs.WordsInTurn.{Going, going_start, going_end, going_all, going_short, going_on, going-fits, going_stop}
+use Rattle.mapfile_read.proofs.WordsInTurn.{Going}
 use Prim.Native.Nat.{◌-◌, ◌≤◌}
-use native.Mathlib.Omega.{arith}
-use Rattle.tile.proofs.TileLaws.{tile_of_size}
 use lib.ListN.{length}
-use borrow.Author.Rules.{rules}
 use Rattle.mapfile_read.proofs.words.Given as goal
 
 abbrev pub invariant-loop-i : goal.invariant-loop-i

@@ -1,7 +1,6 @@
 -- The bits of somebody's accounts are counted.
 use Rattle.mapfile_roster.proofs.AccountsLaws.{count_bits, count_fits}
 use native.Mathlib.Omega.{arith}
-use borrow.Author.Rules.{rules}
 use Rattle.mapfile_roster.proofs.count.Goals as goal
 
 pub returns : goal.returns

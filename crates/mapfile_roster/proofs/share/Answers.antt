@@ -4,7 +4,6 @@ use Rattle.tile.proofs.TileLaws.{tile_of_size}
 use borrow.Author.Tests.{eq-eqb, ne_eqb}
 use mathlib.Core.Path.{sym}
 use native.Mathlib.Omega.{arith}
-use borrow.Author.Rules.{rules}
 use Rattle.mapfile_roster.proofs.share.Goals as goal
 
 pub returns-then-account : goal.returns-then-account

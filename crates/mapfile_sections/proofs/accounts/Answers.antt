@@ -2,7 +2,6 @@
 use mathlib.Core.Path.{◌∙◌}
 use Rattle.tile.specs.Slots.{tiles_in}
 use Rattle.mapfile_sections.proofs.Members.{accounts_count}
-use borrow.Author.Rules.{rules}
 use Rattle.mapfile_sections.proofs.accounts.Goals as goal
 
 pub returns : goal.returns

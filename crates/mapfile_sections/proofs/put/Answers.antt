@@ -2,7 +2,6 @@
 use lib.ListN.{length-set}
 use Rattle.mapfile_sections.proofs.Puts.{put_word}
 use native.Mathlib.Omega.{arith}
-use borrow.Author.Rules.{rules}
 use Rattle.mapfile_sections.proofs.put.Goals as goal
 
 pub bounds-file-at-2 : goal.bounds-file-at-2

@@ -1,5 +1,5 @@
 -- The entries of the accounts left are still to be stored.
-use mathlib.Core.Path.{◌≡◌, refl}
+use mathlib.Core.Path.{◌≡◌}
 use Prim.Native.Nat.{suc, ◌+◌, ◌-◌, ◌*◌, ◌≤◌}
 use lib.ListN.{length}
 use lib.Seq.{sets}
@@ -7,9 +7,7 @@ use Rattle.tile.specs.Tile.{highest_account}
 use Rattle.tile.specs.Slots.{tiles_in}
 use Rattle.mapfile_roster.specs.Roster.{roster_of}
 use Rattle.mapfile_sections.specs.Sections.{entries_bytes}
-use Rattle.mapfile_sections.proofs.Passes.{roster_at, entries_room, entries_on, entries_end}
-use native.Mathlib.Omega.{arith}
-use borrow.Author.Rules.{rules}
+use Rattle.mapfile_sections.proofs.Passes.{roster_at}
 use Rattle.mapfile_sections.proofs.put_entries.Given as goal
 
 abbrev pub invariant-loop-next : goal.invariant-loop-next

@@ -2,7 +2,6 @@
 use lib.ListN.{length-set}
 use Rattle.mapfile_sections.proofs.Passes.{entry_of_length, entry_none, entry_one}
 use native.Mathlib.Omega.{arith}
-use borrow.Author.Rules.{rules}
 use Rattle.mapfile_sections.proofs.put_entry.Goals as goal
 
 pub returns-then-pixels-eq0 : goal.returns-then-pixels-eq0

@@ -8,7 +8,6 @@ use Rattle.mapfile_roster.specs.Roster.{roster_of}
 use Rattle.mapfile_roster.proofs.RosterLaws.{roster_of_few}
 use Rattle.mapfile_sections.specs.Sections.{entries_bytes}
 use native.Mathlib.Omega.{arith}
-use borrow.Author.Rules.{rules}
 use Rattle.mapfile_sections.proofs.put_roster.Goals as goal
 
 pub returns : goal.returns

@@ -1,9 +1,7 @@
 -- The words left are still to be stored.
-use mathlib.Core.Path.{◌≡◌, refl}
-use Prim.Native.Nat.{◌+◌, ◌-◌, ◌*◌, ◌≤◌}
-use lib.ListN.{length, take, drop, get_or}
-use lib.Seq.{sets, length-take-le, get_or-take}
-use Rattle.mapfile_sections.specs.Sections.{words_bytes}
+use mathlib.Core.Path.{refl}
+use lib.ListN.{take, get_or}
+use lib.Seq.{length-take-le, get_or-take}
 use Rattle.mapfile_sections.proofs.Puts.{words_on, words_end}
 use native.Mathlib.Omega.{arith}
 use borrow.Author.Rules.{rules}

@@ -1,12 +1,9 @@
 -- The words left are still to be stored.
-use mathlib.Core.Path.{◌≡◌, refl}
+use mathlib.Core.Path.{◌≡◌}
 use Prim.Native.Nat.{◌+◌, ◌-◌, ◌*◌, ◌≤◌}
-use lib.ListN.{length, take, drop, get_or}
-use lib.Seq.{sets, length-take-le, get_or-take}
+use lib.ListN.{length, take, drop}
+use lib.Seq.{sets}
 use Rattle.mapfile_sections.specs.Sections.{words_bytes}
-use Rattle.mapfile_sections.proofs.Puts.{words_on, words_end}
-use native.Mathlib.Omega.{arith}
-use borrow.Author.Rules.{rules}
 use Rattle.mapfile_sections.proofs.put_words.Given as goal
 
 abbrev pub invariant-loop-i : goal.invariant-loop-i

@@ -2,16 +2,11 @@
 use mathlib.Core.List.{map}
 use Prim.Native.Nat.{◌-◌, ◌≤◌}
 use lib.Dec.{ltb}
-use lib.ListN.{take, drop, get_or}
-use lib.Seq.{length-take-le, get_or-take}
+use lib.ListN.{take, drop}
 use Rattle.tile.specs.Tile.{tile_of}
 use Rattle.tile.specs.Slots.{tiles_in}
-use Rattle.tile.proofs.TileLaws.{tile_of_account}
 use Rattle.mapfile_roster.specs.Roster.{covered}
 use Rattle.mapfile_roster.proofs.AccountsLaws.{Growing}
-use Rattle.mapfile_sections.proofs.Members.{tiled_start, tiled_on, tiled_end}
-use native.Mathlib.Omega.{arith}
-use borrow.Author.Rules.{rules}
 use Rattle.mapfile_sections.proofs.tiled.Given as goal
 
 abbrev pub invariant-loop-i : goal.invariant-loop-i

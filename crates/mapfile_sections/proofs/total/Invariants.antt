@@ -2,15 +2,10 @@
 use mathlib.Core.Path.{◌≡◌}
 use mathlib.Core.List.{map}
 use Prim.Native.Nat.{◌+◌, ◌-◌, ◌≤◌}
-use lib.ListN.{take, drop, get_or}
-use lib.Seq.{length-take-le, get_or-take}
+use lib.ListN.{take, drop}
 use Rattle.tile.specs.Tile.{tile_of}
 use Rattle.tile.specs.Slots.{tiles_in}
 use Rattle.mapfile_roster.specs.Roster.{covered}
-use Rattle.mapfile_roster.proofs.CoveredLaws.{covered_fits}
-use Rattle.mapfile_sections.proofs.Passes.{covered_start, covered_on, covered_end}
-use native.Mathlib.Omega.{arith}
-use borrow.Author.Rules.{rules}
 use Rattle.mapfile_sections.proofs.total.Given as goal
 
 abbrev pub invariant-loop-i : goal.invariant-loop-i

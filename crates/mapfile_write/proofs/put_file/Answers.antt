@@ -7,7 +7,6 @@ use Rattle.mapfile_sections.specs.Sections.{roster_bytes}
 use Rattle.mapfile_sections.proofs.Puts.{part_same}
 use Rattle.mapfile_write.proofs.WriterLaws.{few_tiles, file_of_put, roster_room}
 use native.Mathlib.Omega.{arith}
-use borrow.Author.Rules.{rules}
 use Rattle.mapfile_write.proofs.put_file.Goals as goal
 
 pub returns : goal.returns

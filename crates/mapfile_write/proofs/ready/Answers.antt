@@ -1,6 +1,5 @@
 -- The opening checks, which bound the order, then 52.
 use mathlib.Core.Path.{◌∙◌, sym}
-use borrow.Author.Rules.{rules}
 use Rattle.refusal.proofs.CheckLaws.{else_on, else_off}
 use Rattle.scan_check.proofs.Opening.{opening_opened}
 use Rattle.mapfile_write.specs.Writer.{ready_check}

@@ -4,7 +4,6 @@ use Rattle.tile.specs.Slots.{tiles_in}
 use Rattle.mapfile_roster.proofs.RosterLaws.{roster_of_few}
 use Rattle.mapfile_write.proofs.WriterLaws.{few_tiles, file_of_size, write_of_refused, write_of_short, write_of_put, ready_opened}
 use native.Mathlib.Omega.{arith}
-use borrow.Author.Rules.{rules}
 use Rattle.mapfile_write.proofs.write.Goals as goal
 
 pub returns-then-number-ne-ACCEPTED : goal.returns-then-number-ne-ACCEPTED
