@@ -1,0 +1,6 @@
+-- The call's own contract, of the choice of the number.
+use borrow.Author.Rules.{rules}
+use Rattle.kingletbed.proofs.kb_combine.Goals as goal
+
+pub returns : goal.returns
+returns c = rw c.choice_of-choice.ensures at c.combine.ensures

@@ -1,0 +1,6 @@
+-- The call's own contract, of the record that the numbers give.
+use borrow.Author.Rules.{rules}
+use Rattle.kingletbed.proofs.kb_lookup.Goals as goal
+
+pub returns : goal.returns
+returns c = rw c.scan_of-scan.ensures at c.lookup.ensures
