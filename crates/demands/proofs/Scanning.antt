@@ -143,7 +143,7 @@ module _ (k : Kind) (n : ℕ) where
   pub after_feeds_scanned : {m : ℕ} {t : State} (px : List ℕ) (feeds : List (List ℕ)) → Kept m t (scan_bed k n px) → Kept m (after_feeds t feeds) (scan_bed k n (px ++ taken t feeds))
   unfolding after_feeds taken
   after_feeds_scanned px [] w = rw (append-nil px) w
-  after_feeds_scanned {m} {t} px (bytes ∷ feeds) w = feeds_more t px bytes feeds (after_feeds_scanned (px ++ take (step t (feed bytes)).answer.taken bytes) feeds (feed_scanned px bytes w))
+  after_feeds_scanned {m} {t} px (bytes ∷ feeds) w = feeds_more t px bytes feeds (after_feeds_scanned {t = (step t (feed bytes)).state} (px ++ take (step t (feed bytes)).answer.taken bytes) feeds (feed_scanned px bytes w))
 
   counted_more : (t : State) (bytes : List ℕ) (feeds : List (List ℕ)) → (step t (feed bytes)).answer.taken ≡ length (take (step t (feed bytes)).answer.taken bytes) →
       counts_answered (step t (feed bytes)).state feeds ≡ length (taken (step t (feed bytes)).state feeds) → counts_answered t (bytes ∷ feeds) ≡ length (taken t (bytes ∷ feeds))
@@ -153,7 +153,7 @@ module _ (k : Kind) (n : ℕ) where
   after_feeds_counted : {m : ℕ} {t : State} (px : List ℕ) (feeds : List (List ℕ)) → Kept m t (scan_bed k n px) → counts_answered t feeds ≡ length (taken t feeds)
   unfolding counts_answered taken
   after_feeds_counted px [] w = refl
-  after_feeds_counted {m} {t} px (bytes ∷ feeds) w = counted_more t bytes feeds (feed_counted px bytes w) (after_feeds_counted (px ++ take (step t (feed bytes)).answer.taken bytes) feeds (feed_scanned px bytes w))
+  after_feeds_counted {m} {t} px (bytes ∷ feeds) w = counted_more t bytes feeds (feed_counted px bytes w) (after_feeds_counted {t = (step t (feed bytes)).state} (px ++ take (step t (feed bytes)).answer.taken bytes) feeds (feed_scanned px bytes w))
 
   fresh_state_lem : (slots : List ℕ) → n ≤ highest_order → fresh_state k n slots ≡ record { scan = scan_of k n 0 0; slots = replicate (length slots) 0 }
   unfolding fresh_of unless
