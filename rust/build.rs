@@ -16,7 +16,7 @@ fn main() {
     if !library.is_file() {
         eprintln!("The static library is not there: {}", library.display());
         eprintln!(
-            "Run `rt staticlib kingletbed` at the top of the repository, or name its directory in KINGLETBED_LIB_DIR."
+            "Run `tools/build library` at the top of the repository, or name its directory in KINGLETBED_LIB_DIR."
         );
         std::process::exit(1);
     }

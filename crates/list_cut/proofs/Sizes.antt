@@ -2,7 +2,7 @@
 --     greedy_starts    the size that can start at lo, where there is more room
 --     greedy_room      the size that has room, where at least this can start
 use mathlib.Core.Path.{◌≡◌, refl, ap, ◌∙◌}
-use Prim.Native.Nat.{ℕ, zero, suc, ◌+◌, ◌-◌, ◌*◌, ◌/◌, ◌^◌, ◌≤◌, ◌<◌}
+use Prim.Native.Nat.{ℕ, zero, suc, ◌-◌, ◌/◌, ◌^◌, ◌≤◌, ◌<◌}
 use native.Mathlib.Omega.{arith}
 use lib.Count.{count_leading_zeros, count_trailing_zeros, trailing_of_zero}
 use Rattle.tile.specs.Tile.{highest_order}

@@ -2,7 +2,6 @@
 // definitions.
 #![tactic(auto)]
 
-
 pub const ACCEPTED: u32 = 0;
 
 pub const ORDER_TOO_LARGE: u32 = 1;

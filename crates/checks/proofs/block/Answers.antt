@@ -2,7 +2,6 @@
 use Prim.Native.Nat.{◌^◌, ◌≤◌}
 use native.Mathlib.Omega.{arith}
 use borrow.Author.Tests.{lt-leb, le-leb, le-ltb}
-use borrow.Author.Rules.{rules}
 use Rattle.refusal.specs.Checks.{must}
 use Rattle.quadtree.specs.Raster.{aligned}
 use Rattle.quadtree.proofs.Alignment.{area_pos}

@@ -1,6 +1,5 @@
 -- The two tests of 31.
 use native.Mathlib.Omega.{arith}
-use borrow.Author.Rules.{rules}
 use Rattle.checks.proofs.AskedLaws.{shift_side, point_outside_lem, point_inside}
 use Rattle.checks.proofs.point.Goals as goal
 

@@ -1,10 +1,6 @@
 -- The loop keeps that the bytes from i on decide.
-use mathlib.Core.Path.{◌≡◌, refl, sym, ◌∙◌}
-use Prim.Native.Nat.{◌-◌, ◌≤◌}
-use borrow.Author.Rules.{rules}
+use mathlib.Core.Path.{refl, sym, ◌∙◌}
 use native.Mathlib.Omega.{arith}
-use lib.ListN.{length, drop}
-use Rattle.decimal.specs.Value.{digits_only}
 use Rattle.decimal.proofs.ValueLaws.{only_end, only_not, only_next}
 use Rattle.decimal.proofs.digits_only.Goals as goal
 

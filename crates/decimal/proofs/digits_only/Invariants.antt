@@ -1,12 +1,8 @@
 -- The loop keeps that the bytes from i on decide.
-use mathlib.Core.Path.{◌≡◌, refl, sym, ◌∙◌}
+use mathlib.Core.Path.{◌≡◌}
 use Prim.Native.Nat.{◌-◌, ◌≤◌}
-use borrow.Author.Rules.{rules}
-use borrow.Author.Tests.{not-true, not-false}
-use native.Mathlib.Omega.{arith}
 use lib.ListN.{length, drop}
 use Rattle.decimal.specs.Value.{digits_only}
-use Rattle.decimal.proofs.ValueLaws.{only_end, only_not, only_next}
 use Rattle.decimal.proofs.digits_only.Given as goal
 
 abbrev pub invariant-loop-i : goal.invariant-loop-i

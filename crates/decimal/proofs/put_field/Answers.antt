@@ -1,6 +1,5 @@
 -- `decimal::put_field` meets its contract: the number is put behind the byte string. Assumes nothing.
 use Rattle.text.proofs.PutAtLaws.{put_at_then}
-use borrow.Author.Rules.{rules}
 use Rattle.decimal.proofs.put_field.Goals as goal
 
 pub returns : goal.returns

@@ -1,5 +1,4 @@
 -- `decimal::put_number` meets its contract: at most so many digits are put. Assumes nothing.
-use borrow.Author.Rules.{rules}
 use Rattle.decimal.proofs.put_number.Goals as goal
 
 pub returns : goal.returns

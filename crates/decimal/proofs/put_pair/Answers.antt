@@ -4,7 +4,6 @@ use Rattle.decimal.specs.Decimal.{digits_most, digits}
 use Rattle.decimal.proofs.DecimalLaws.{digits_by_most}
 use Rattle.decimal.proofs.LinesLaws.{pair_put}
 use native.Mathlib.Omega.{arith}
-use borrow.Author.Rules.{rules}
 use Rattle.decimal.proofs.put_pair.Goals as goal
 
 pub returns : goal.returns

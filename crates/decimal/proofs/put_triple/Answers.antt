@@ -3,7 +3,6 @@ use Rattle.text.proofs.PutAtLaws.{put_at_then}
 use Rattle.decimal.specs.Decimal.{digits_most}
 use Rattle.decimal.proofs.DecimalLaws.{digits_by_most}
 use native.Mathlib.Omega.{arith}
-use borrow.Author.Rules.{rules}
 use Rattle.decimal.proofs.put_triple.Goals as goal
 
 pub returns : goal.returns

@@ -1,12 +1,8 @@
 -- The loop keeps that the digits from i on, written behind v, make the number.
 use mathlib.Core.Path.{◌≡◌, refl, sym, ◌∙◌}
-use mathlib.Core.Bool.{true}
-use Prim.Native.Nat.{◌-◌, ◌^◌, ◌≤◌, ◌<◌}
-use borrow.Author.Rules.{rules}
+use Prim.Native.Nat.{◌-◌}
 use native.Mathlib.Omega.{arith}
-use lib.ListN.{length, drop}
-use Rattle.decimal.specs.Value.{digits_only, value_from}
-use Rattle.decimal.specs.Nines.{nines}
+use lib.ListN.{length}
 use Rattle.decimal.proofs.ValueLaws.{value_next, value_end, next_digit}
 use Rattle.decimal.proofs.value_from.Goals as goal
 

@@ -1,13 +1,10 @@
 -- The loop keeps that the digits from i on, written behind v, make the number.
-use mathlib.Core.Path.{◌≡◌, refl, sym, ◌∙◌}
+use mathlib.Core.Path.{◌≡◌}
 use mathlib.Core.Bool.{true}
 use Prim.Native.Nat.{◌-◌, ◌^◌, ◌≤◌, ◌<◌}
-use borrow.Author.Rules.{rules}
-use native.Mathlib.Omega.{arith}
 use lib.ListN.{length, drop}
 use Rattle.decimal.specs.Value.{digits_only, value_from}
 use Rattle.decimal.specs.Nines.{nines}
-use Rattle.decimal.proofs.ValueLaws.{value_next, value_end, next_digit}
 use Rattle.decimal.proofs.value_from.Given as goal
 
 abbrev pub invariant-loop-i : goal.invariant-loop-i

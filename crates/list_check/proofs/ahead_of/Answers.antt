@@ -3,7 +3,6 @@ use mathlib.Core.Path.{◌≡◌, ◌∙◌, ap}
 use Prim.Native.Nat.{ℕ, ◌+◌, ◌-◌}
 use native.Mathlib.Omega.{arith}
 use lib.ListN.{get_or}
-use borrow.Author.Rules.{rules}
 use Rattle.tile.specs.Tile.{stop, tile_of}
 use Rattle.list_check.proofs.FrontLaws.{knows_behind}
 use Rattle.list_check.proofs.ahead_of.Goals as goal

@@ -1,6 +1,5 @@
 -- The code's tests are the definition's, in its order; what breaks one of the checks and none of those ahead of 15 breaks 15.
 use native.Mathlib.Omega.{arith}
-use borrow.Author.Rules.{rules}
 use Rattle.tile.proofs.TileLaws.{tile_of_size}
 use Rattle.quadtree.proofs.Alignment.{area_pos}
 use Rattle.list_flat.proofs.FaultLaws.{area_of_lem, remainder_aligned}

@@ -1,6 +1,5 @@
 -- Checks 1 and 2 decide, or the words of the head do.
 use native.Mathlib.Omega.{arith}
-use borrow.Author.Rules.{rules}
 use Rattle.list_check.proofs.PassLaws.{going_start}
 use Rattle.list_check.proofs.HeadLaws.{begun_order, begun_count, begun_words}
 use Rattle.list_check.proofs.check_head.Goals as goal

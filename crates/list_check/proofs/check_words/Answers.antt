@@ -3,7 +3,6 @@ use mathlib.Core.Path.{◌∙◌, sym}
 use mathlib.Core.List.{[]}
 use native.Mathlib.Omega.{arith}
 use lib.Seq.{take-length}
-use borrow.Author.Rules.{rules}
 use Rattle.list_check.specs.ListCheck.{words_check}
 use Rattle.list_check.proofs.FrontLaws.{going_behind}
 use Rattle.list_check.proofs.HeadLaws.{words_list}

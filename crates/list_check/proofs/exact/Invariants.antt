@@ -1,11 +1,7 @@
 -- The loop keeps `Going`: what is ahead is known, and the words from i on decide.
 use Prim.Native.Nat.{ℕ, ◌-◌, ◌≤◌}
-use native.Mathlib.Omega.{arith}
-use lib.ListN.{take, get_or}
-use lib.Seq.{length-take-le, get_or-take}
-use borrow.Author.Rules.{rules}
+use lib.ListN.{take}
 use Rattle.list_check.specs.Pass.{Going}
-use Rattle.list_check.proofs.PassLaws.{going_end, going_on, going_stop}
 use Rattle.list_check.proofs.exact.Given as goal
 
 abbrev pub invariant-loop-i : goal.invariant-loop-i

@@ -1,6 +1,5 @@
 -- Words that are clear pass, behind those of the head.
 use native.Mathlib.Omega.{arith}
-use borrow.Author.Rules.{rules}
 use Rattle.list_check.proofs.FrontLaws.{clear_passes}
 use Rattle.list_check.proofs.flat_upto.Goals as goal
 

@@ -1,6 +1,5 @@
 -- The head is known to pass, or its checks are asked.
 use native.Mathlib.Omega.{arith}
-use borrow.Author.Rules.{rules}
 use Rattle.list_check.proofs.HeadLaws.{begun_known}
 use Rattle.list_check.proofs.head_number.Goals as goal
 

@@ -2,7 +2,6 @@
 use mathlib.Core.Path.{◌∙◌, sym}
 use Prim.Native.Nat.{suc, ◌/◌}
 use native.Mathlib.Omega.{arith}
-use borrow.Author.Rules.{rules}
 use Rattle.basics.proofs.Tests.{fails, test_leb, test_map}
 use Rattle.tile.proofs.TileLaws.{tile_of_size}
 use Rattle.list_flat.proofs.FaultLaws.{area_of_lem}

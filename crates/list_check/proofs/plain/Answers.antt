@@ -1,6 +1,5 @@
 -- Each test that fails shows that the word breaks a check; where all pass, its tile is sound.
 use native.Mathlib.Omega.{arith}
-use borrow.Author.Rules.{rules}
 use Rattle.basics.proofs.Tests.{fails, test_leb, test_map}
 use Rattle.tile.proofs.Bits.{stop_fits}
 use Rattle.tile.proofs.TileLaws.{tile_of_size}

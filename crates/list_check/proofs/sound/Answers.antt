@@ -1,6 +1,5 @@
 -- The word breaks no check, or the one that it breaks is named.
 use mathlib.Core.Path.{sym}
-use borrow.Author.Rules.{rules}
 use Rattle.basics.proofs.Tests.{told_true, told_false}
 use Rattle.list_check.proofs.sound.Goals as goal
 

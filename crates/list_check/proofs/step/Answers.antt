@@ -1,5 +1,4 @@
 -- Checks 11 to 15 are `sound`'s, check 16 is `last_of_four`'s: each end of the code is a law of one word.
-use borrow.Author.Rules.{rules}
 use Rattle.list_check.proofs.OneWord.{step_bad, step_sound, step_last, step_good}
 use Rattle.list_check.proofs.step.Goals as goal
 

@@ -3,7 +3,6 @@ use Prim.Native.Nat.{◌-◌}
 use native.Mathlib.Omega.{arith}
 use Rattle.quadtree.proofs.HighestBit.{zeros_few}
 use Rattle.list_cut.proofs.Sizes.{greedy_starts, greedy_room}
-use borrow.Author.Rules.{rules}
 use Rattle.list_cut.proofs.largest.Goals as goal
 
 pub returns-then-starts-room : goal.returns-then-starts-room

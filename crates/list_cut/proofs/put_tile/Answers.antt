@@ -1,6 +1,5 @@
 -- One store.
 use mathlib.Core.Path.{refl}
-use borrow.Author.Rules.{rules}
 use Rattle.list_cut.proofs.put_tile.Goals as goal
 
 pub returns : goal.returns

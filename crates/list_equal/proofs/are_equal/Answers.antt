@@ -1,10 +1,8 @@
 -- The words are compared in turn: what is left to compare decides.
 use mathlib.Core.Path.{◌∙◌, refl, ap, sym}
-use Prim.Native.Nat.{◌-◌}
 use native.Mathlib.Omega.{arith}
-use borrow.Author.Rules.{rules}
 use Rattle.tile.specs.Tile.{Tile}
-use Rattle.list_equal.proofs.Turns.{along_room, Reading, read_none, read_more, read_other, read_all}
+use Rattle.list_equal.proofs.Turns.{along_room, read_none, read_more, read_other, read_all}
 use Rattle.list_equal.proofs.are_equal.Goals as goal
 
 pub loop-j-init : goal.loop-j-init

@@ -1,13 +1,11 @@
 -- The words are written in turn: what is left to write makes the slots that are promised.
 use mathlib.Core.List.{map, ◌++◌}
-use mathlib.Core.Path.{◌≡◌, refl}
+use mathlib.Core.Path.{◌≡◌}
 use Prim.Native.Nat.{◌+◌, ◌-◌}
-use native.Mathlib.Omega.{arith}
-use lib.ListN.{length-set, length, take, drop}
-use borrow.Author.Rules.{rules}
+use lib.ListN.{length, take, drop}
 use Rattle.tile.specs.Tile.{word_of}
 use Rattle.quadtree.specs.Tiling.{equal_tiles}
-use Rattle.list_equal.proofs.Turns.{along_room, along_below, Writing, write_none, write_more, write_all}
+use Rattle.list_equal.proofs.Turns.{Writing}
 use Rattle.list_equal.proofs.write_equal.Given as goal
 
 abbrev pub invariant-loop-j : goal.invariant-loop-j

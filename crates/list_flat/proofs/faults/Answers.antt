@@ -1,10 +1,8 @@
 -- The loop keeps `Stretch`; at its end the corners of all words tell that each is on the bed.
-use Prim.Native.Nat.{◌-◌, ◌≤◌}
 use native.Mathlib.Omega.{arith}
-use borrow.Author.Rules.{rules}
 use borrow.Author.Tests.{leb-false}
 use Rattle.basics.proofs.Tests.{neither}
-use Rattle.list_flat.proofs.StretchLaws.{Stretch, stretch_start, stretch_on, stretch_clear}
+use Rattle.list_flat.proofs.StretchLaws.{stretch_start, stretch_on, stretch_clear}
 use Rattle.list_flat.proofs.faults.Goals as goal
 
 pub returns : goal.returns

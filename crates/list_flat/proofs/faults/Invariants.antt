@@ -1,10 +1,6 @@
 -- The loop keeps `Stretch`; at its end the corners of all words tell that each is on the bed.
 use Prim.Native.Nat.{◌-◌, ◌≤◌}
-use native.Mathlib.Omega.{arith}
-use borrow.Author.Rules.{rules}
-use borrow.Author.Tests.{leb-false}
-use Rattle.basics.proofs.Tests.{neither}
-use Rattle.list_flat.proofs.StretchLaws.{Stretch, stretch_start, stretch_on, stretch_clear}
+use Rattle.list_flat.proofs.StretchLaws.{Stretch}
 use Rattle.list_flat.proofs.faults.Given as goal
 
 abbrev pub invariant-loop-i : goal.invariant-loop-i

@@ -1,8 +1,6 @@
 -- The loop keeps `Looked`: what is ahead of i is clear.
-use Prim.Native.Nat.{◌-◌, ◌≤◌}
 use native.Mathlib.Omega.{arith}
-use borrow.Author.Rules.{rules}
-use Rattle.list_flat.proofs.StretchLaws.{Looked, looked_start, looked_on}
+use Rattle.list_flat.proofs.StretchLaws.{looked_start, looked_on}
 use Rattle.list_flat.proofs.flat.Goals as goal
 
 pub loop-i-init : goal.loop-i-init

@@ -1,10 +1,7 @@
 -- The loop keeps `Grown`: the words from `at` on and the tile can be dropped for the tile of the size reached.
-use Rattle.list_push.proofs.Growth.{Grown, grown_start, grown_more, sibling_room, merged_short, merged_other, merged_top}
+use Rattle.list_push.proofs.Growth.{grown_start, grown_more, sibling_room, merged_short, merged_other, merged_top}
 use Rattle.tile.specs.Tile.{tile}
-use borrow.Author.Tests.{not-true, not-false}
-use Prim.Native.Nat.{◌-◌, ◌≤◌}
 use native.Mathlib.Omega.{arith}
-use borrow.Author.Rules.{rules}
 use Rattle.list_push.proofs.merge.Goals as goal
 
 pub loop-grown-init : goal.loop-grown-init
@@ -20,7 +17,7 @@ returns-then-not-siblings c =
     let l = c.loop-grown in
     let p = c.requires in
     let area = c.area in
-    merged_other p.size_le_levels.1 l.invariant.1 l.invariant.0 (rw area.ensures at (c.siblings.ensures.are_not ( c.if-not-siblings.true)))
+    merged_other p.size_le_levels.1 l.invariant.1 l.invariant.0 (rw area.ensures at (c.siblings.ensures.are_not (c.if-not-siblings.true)))
 
 pub loop-grown-preserved : goal.loop-grown-preserved
 loop-grown-preserved c =

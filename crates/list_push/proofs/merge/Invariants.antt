@@ -1,10 +1,7 @@
 -- The loop keeps `Grown`: the words from `at` on and the tile can be dropped for the tile of the size reached.
-use Rattle.list_push.proofs.Growth.{Grown, grown_start, grown_more, sibling_room, merged_short, merged_other, merged_top}
+use Rattle.list_push.proofs.Growth.{Grown}
 use Rattle.tile.specs.Tile.{tile}
-use borrow.Author.Tests.{not-true, not-false}
 use Prim.Native.Nat.{◌-◌, ◌≤◌}
-use native.Mathlib.Omega.{arith}
-use borrow.Author.Rules.{rules}
 use Rattle.list_push.proofs.merge.Given as goal
 
 abbrev pub invariant-loop-grown : goal.invariant-loop-grown

@@ -2,7 +2,6 @@
 use Rattle.list_push.proofs.SiblingWords.{three_not, three_last}
 use Rattle.quadtree.proofs.Alignment.{area_pos}
 use native.Mathlib.Omega.{arith}
-use borrow.Author.Rules.{rules}
 use Rattle.list_push.proofs.siblings.Goals as goal
 
 pub pack-requires : goal.pack-requires

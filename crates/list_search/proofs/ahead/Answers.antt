@@ -1,6 +1,5 @@
 -- In a sorted list the place of z says how many tiles are ahead of it.
 use Rattle.list_search.proofs.CountLaws.{ahead_cut}
-use borrow.Author.Rules.{rules}
 use Rattle.list_search.proofs.ahead.Goals as goal
 
 pub returns : goal.returns

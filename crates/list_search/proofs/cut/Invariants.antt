@@ -1,10 +1,7 @@
 -- Binary search: the tile ahead of `low` starts below z, and that at `high` does not.
 use Rattle.tile.specs.Tile.{tile_of}
-use mathlib.Core.Path.{◌≡◌}
-use Prim.Native.Nat.{◌/◌, ◌+◌, ◌-◌, ◌≤◌, ◌<◌}
-use native.Mathlib.Omega.{arith}
+use Prim.Native.Nat.{◌-◌, ◌≤◌, ◌<◌}
 use lib.ListN.{get_or}
-use borrow.Author.Rules.{rules}
 use Rattle.list_search.proofs.cut.Given as goal
 
 abbrev pub invariant-loop-low : goal.invariant-loop-low

@@ -1,10 +1,7 @@
 -- Binary search: the tile ahead of a stops by x, and that at b past it.
 use mathlib.Core.Path.{◌≡◌}
-use Prim.Native.Nat.{◌/◌, ◌+◌, ◌-◌, ◌≤◌, ◌<◌}
+use Prim.Native.Nat.{◌/◌, ◌+◌, ◌-◌}
 use native.Mathlib.Omega.{arith}
-use lib.ListN.{length, get_or}
-use borrow.Author.Rules.{rules}
-use Rattle.tile.specs.Tile.{stop, tile_of}
 use Rattle.list_search.proofs.first_past.Goals as goal
 
 pub loop-a-init : goal.loop-a-init

@@ -1,9 +1,6 @@
 -- Binary search: the tile ahead of a stops by x, and that at b past it.
-use mathlib.Core.Path.{◌≡◌}
-use Prim.Native.Nat.{◌/◌, ◌+◌, ◌-◌, ◌≤◌, ◌<◌}
-use native.Mathlib.Omega.{arith}
+use Prim.Native.Nat.{◌-◌, ◌≤◌, ◌<◌}
 use lib.ListN.{length, get_or}
-use borrow.Author.Rules.{rules}
 use Rattle.tile.specs.Tile.{stop, tile_of}
 use Rattle.list_search.proofs.first_past.Given as goal
 

@@ -1,11 +1,8 @@
 -- The loop keeps that the tile ahead of `low` starts below z; the last step holds the place.
 use Rattle.list_search.proofs.CutLaws.{cut_wider}
-use Rattle.tile.specs.Tile.{tile_of}
 use mathlib.Core.Path.{◌≡◌}
-use Prim.Native.Nat.{◌+◌, ◌-◌, ◌≤◌, ◌<◌}
+use Prim.Native.Nat.{◌+◌, ◌-◌}
 use native.Mathlib.Omega.{arith}
-use lib.ListN.{length, get_or}
-use borrow.Author.Rules.{rules}
 use Rattle.list_search.proofs.reach.Goals as goal
 
 pub loop-low-init : goal.loop-low-init

@@ -1,11 +1,7 @@
 -- The loop keeps that the tile ahead of `low` starts below z; the last step holds the place.
-use Rattle.list_search.proofs.CutLaws.{cut_wider}
 use Rattle.tile.specs.Tile.{tile_of}
-use mathlib.Core.Path.{◌≡◌}
-use Prim.Native.Nat.{◌+◌, ◌-◌, ◌≤◌, ◌<◌}
-use native.Mathlib.Omega.{arith}
+use Prim.Native.Nat.{◌-◌, ◌≤◌, ◌<◌}
 use lib.ListN.{length, get_or}
-use borrow.Author.Rules.{rules}
 use Rattle.list_search.proofs.reach.Given as goal
 
 abbrev pub invariant-loop-low : goal.invariant-loop-low

@@ -1,11 +1,8 @@
 -- The words cleared so far, and those left as they were.
-use Rattle.list_words.proofs.Moves.{fill_step, fill_all}
 use mathlib.Core.Path.{◌≡◌}
 use Prim.Native.Nat.{◌-◌, ◌≤◌}
 use mathlib.Core.List.{◌++◌}
-use native.Mathlib.Omega.{arith}
 use lib.ListN.{length, drop, replicate}
-use borrow.Author.Rules.{rules}
 use Rattle.list_words.proofs.clear.Given as goal
 
 abbrev pub invariant-loop-i : goal.invariant-loop-i

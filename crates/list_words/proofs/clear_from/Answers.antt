@@ -1,7 +1,6 @@
 -- A part to the end, cleared and put back: `cleared`.
 use Rattle.list_words.proofs.Moves.{cleared}
 use native.Mathlib.Omega.{arith}
-use borrow.Author.Rules.{rules}
 use Rattle.list_words.proofs.clear_from.Goals as goal
 
 pub returns : goal.returns

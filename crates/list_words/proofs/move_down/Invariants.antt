@@ -1,12 +1,9 @@
 -- The words moved down so far, and those not yet reached.
-use Rattle.list_words.proofs.Moves.{down_none, down_step}
 use lib.Seq.{slice}
 use mathlib.Core.Path.{◌≡◌}
 use Prim.Native.Nat.{◌+◌, ◌-◌, ◌≤◌}
 use mathlib.Core.List.{◌++◌}
-use native.Mathlib.Omega.{arith}
 use lib.ListN.{length, take, drop}
-use borrow.Author.Rules.{rules}
 use Rattle.list_words.proofs.move_down.Given as goal
 
 abbrev pub invariant-loop-j : goal.invariant-loop-j

@@ -1,12 +1,9 @@
 -- The words moved up so far, from the last one on.
-use Rattle.list_words.proofs.Moves.{up_none, up_step}
 use lib.Seq.{slice}
 use mathlib.Core.Path.{◌≡◌}
 use Prim.Native.Nat.{◌+◌, ◌≤◌}
 use mathlib.Core.List.{◌++◌}
-use native.Mathlib.Omega.{arith}
 use lib.ListN.{length, take, drop}
-use borrow.Author.Rules.{rules}
 use Rattle.list_words.proofs.move_up.Given as goal
 
 abbrev pub invariant-loop-i : goal.invariant-loop-i

@@ -1,5 +1,4 @@
 -- `number` meets its contract: column and row, spaced, share no bit.
-use borrow.Author.Rules.{rules}
 use Rattle.morton.proofs.Masks.{join_morton}
 use Rattle.morton.proofs.number.Goals as goal
 

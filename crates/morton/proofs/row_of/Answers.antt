@@ -1,6 +1,5 @@
 -- `row_of` meets its contract: the row is the column of the half.
 use mathlib.Core.Path.{◌∙◌, sym}
-use borrow.Author.Rules.{rules}
 use Rattle.morton.specs.Morton.{side_bits}
 use Rattle.morton.proofs.MortonLaws.{row_column}
 use Rattle.morton.proofs.row_of.Goals as goal

@@ -1,6 +1,5 @@
 -- The code's test is the comparison of the places, row first: `compared`.
 use native.Mathlib.Omega.{arith}
-use borrow.Author.Rules.{rules}
 use lib.Dec.{leb, ltb, eqb}
 use borrow.Author.Tests.{ltb-true, ltb-false, leb-true, leb-false, eqb-true, eqb-false}
 use Rattle.bed.specs.declared.Kind.TheVariants.{Rows}

@@ -1,6 +1,5 @@
 -- Every pixel, or by the test of the block.
 use mathlib.Core.Path.{◌∙◌, sym}
-use borrow.Author.Rules.{rules}
 use Rattle.scan_check.proofs.ScannedLaws.{whole_block, block_unscanned, block_scanned}
 use Rattle.scan_check.proofs.block_scanned.Goals as goal
 

@@ -1,7 +1,6 @@
 -- Nothing is left to scan, or there is no tile; else by kind: every tile by rows, the last one in Morton order.
 use mathlib.Core.Path.{◌∙◌, ap, sym}
 use native.Mathlib.Omega.{arith}
-use borrow.Author.Rules.{rules}
 use Rattle.bed.specs.declared.Kind.{Kind}
 use Rattle.bed.specs.Places.{scan_of}
 use Rattle.tile.specs.Slots.{tiles_in}

@@ -1,6 +1,5 @@
 -- By whether every pixel is scanned.
 use mathlib.Core.Path.{◌∙◌, sym}
-use borrow.Author.Rules.{rules}
 use Rattle.scan_check.proofs.ScannedLaws.{finished_short, finished_whole}
 use Rattle.scan_check.proofs.finished.Goals as goal
 

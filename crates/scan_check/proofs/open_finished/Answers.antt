@@ -3,7 +3,6 @@ use Rattle.scan_check.proofs.Opening.{open_list, open_whole}
 use Rattle.list_check.proofs.Accepts.{list_check_valid}
 use mathlib.Core.Path.{◌∙◌, sym}
 use native.Mathlib.Omega.{arith}
-use borrow.Author.Rules.{rules}
 use Rattle.scan_check.proofs.open_finished.Goals as goal
 
 pub returns-then-number-ne-ACCEPTED : goal.returns-then-number-ne-ACCEPTED

@@ -1,7 +1,6 @@
 -- Every pixel, or by this one's place.
 use mathlib.Core.Path.{◌∙◌, sym}
 use native.Mathlib.Omega.{arith}
-use borrow.Author.Rules.{rules}
 use Rattle.scan_check.proofs.ScannedLaws.{whole_pixel, pixel_unscanned, pixel_scanned}
 use Rattle.scan_check.proofs.pixel_scanned.Goals as goal
 

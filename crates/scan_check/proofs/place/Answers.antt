@@ -1,6 +1,5 @@
 -- By kind: row and column of the pixel, or its number itself.
 use Rattle.scan_check.proofs.Unscanned.{place_rows, place_fits, place_morton}
-use borrow.Author.Rules.{rules}
 use Rattle.scan_check.proofs.place.Goals as goal
 
 pub returns-in-Rows : goal.returns-in-Rows

@@ -1,19 +1,13 @@
 -- The loop keeps that what is looked at, in `bad`, and the words from i on decide.
 use mathlib.Core.Path.{◌≡◌, ◌∙◌, refl, sym}
-use mathlib.Core.Bool.{◌||◌}
-use Prim.Native.Nat.{◌-◌, ◌≤◌}
+use Prim.Native.Nat.{◌-◌}
 use native.Mathlib.Omega.{arith}
-use lib.ListN.{take, drop, get_or}
+use lib.ListN.{get_or}
 use lib.Pow.{pow_pos}
-use borrow.Author.Rules.{rules}
 use Rattle.tile.specs.Tile.{tile_of, stop}
 use Rattle.tile.specs.Slots.{tiles_in}
-use Rattle.tile.specs.Slots as words
 use Rattle.quadtree.proofs.Alignment.{area_pos}
 use Rattle.quadtree.proofs.Chains.{quadrant_stop}
-use Rattle.bed.specs.declared.Kind.TheVariants.{Rows}
-use Rattle.bed.specs.Places.{scan_of}
-use Rattle.scan_check.specs.Opening.{covers_unscanned}
 use Rattle.scan_check.proofs.Unscanned.{word_quadrant}
 use Rattle.scan_check.proofs.ByRows.{side_shifted, stands, rows_on, rows_end}
 use Rattle.scan_check.proofs.rows_unscanned.Goals as goal

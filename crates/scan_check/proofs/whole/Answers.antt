@@ -1,5 +1,4 @@
 -- By the pixels of the bed.
-use borrow.Author.Rules.{rules}
 use Rattle.scan_check.proofs.whole.Goals as goal
 
 pub returns : goal.returns

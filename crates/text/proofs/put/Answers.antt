@@ -1,7 +1,6 @@
 -- `text::put` meets its contract: a byte past the end is counted, any other is stored. Assumes nothing.
 use Rattle.text.proofs.PutAtLaws.{put_at_count, put_at_one}
 use native.Mathlib.Omega.{arith}
-use borrow.Author.Rules.{rules}
 use Rattle.text.proofs.put.Goals as goal
 
 pub returns-then-out-at : goal.returns-then-out-at

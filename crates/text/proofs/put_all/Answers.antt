@@ -1,12 +1,9 @@
 -- `text::put_all` meets its contract. The loop's invariant: the first i bytes are put. Assumes nothing.
-use Rattle.text.specs.PutAt.{PutAt}
 use Rattle.text.proofs.PutAtLaws.{put_at_none, put_at_next}
 use lib.Seq.{take-length}
 use mathlib.Core.Path.{◌≡◌}
-use Prim.Native.Nat.{◌+◌, ◌-◌, ◌≤◌}
 use native.Mathlib.Omega.{arith}
-use lib.ListN.{length, take}
-use borrow.Author.Rules.{rules}
+use lib.ListN.{length}
 use Rattle.text.proofs.put_all.Goals as goal
 
 pub loop-i-init : goal.loop-i-init

@@ -1,5 +1,4 @@
 -- The shift gives the power of four.
-use borrow.Author.Rules.{rules}
 use Rattle.tile.proofs.Bits.{shift_area}
 use Rattle.tile.proofs.area.Goals as goal
 

@@ -2,7 +2,6 @@
 use mathlib.Core.Path.{ap}
 use Prim.Native.Nat.{ℕ, ◌^◌}
 use native.Mathlib.Omega.{arith}
-use borrow.Author.Rules.{rules}
 use Rattle.tile.proofs.TileLaws.{tile_of_size}
 use Rattle.tile.proofs.Bits.{stop_fits}
 use Rattle.tile.proofs.stop.Goals as goal
