@@ -40,8 +40,8 @@ tiling_cut_at d x zero (next {t = t} n r) l u s g = (
   none u (λ z zl zh. n.blank z zl (omega (arith, s (omega arith)))),
   next {lo = x} {t = t} (record { after = s (omega arith); blank = λ z zl zh. n.blank z (omega arith) zh; on = n.on }) r,
 )
-tiling_cut_at d x (suc zero) (next n r) l u s g = let c = tiling_cut_at d x zero r (omega arith) u (λ h. s (omega arith)) g in (next n c.0, c.1)
-tiling_cut_at d x (suc (suc k)) (next n r) l u s g = let c = tiling_cut_at d x (suc k) r (omega arith) u (λ h. s (omega arith)) g in (next n c.0, c.1)
+tiling_cut_at {lo = lo} d x (suc zero) (next {t = t} n r) l u s g = let c = tiling_cut_at {lo = stop t} d x zero r (omega arith) u (λ h. s (omega arith)) g in (next n c.0, c.1)
+tiling_cut_at {lo = lo} d x (suc (suc k)) (next {t = t} n r) l u s g = let c = tiling_cut_at {lo = stop t} d x (suc k) r (omega arith) u (λ h. s (omega arith)) g in (next n c.0, c.1)
 
 pub record At (f : ℕ → ℕ) (hi : ℕ) (ts : List Tile) (j : ℕ) (t : Tile) : Type 0 where
   pub whole : take j ts ++ ((t ∷ []) ++ drop (suc j) ts) ≡ ts

@@ -106,6 +106,7 @@ module _ (n : ℕ) (ts : List Tile) (o : n ≤ highest_order) (v : Valid n ts) (
 pub tiles_accounts : (ws : List ℕ) (t : Tile) → t ∈ map tile_of ws → t.account ≤ highest_account
 tiles_accounts (w ∷ ws) t (Memᴰ.head e) = rw e (tile_of_account w)
 tiles_accounts (w ∷ ws) t (Memᴰ.tail m) = tiles_accounts ws t m
+tiles_accounts [] t x' = elim x' [ ]
 
 pub slots_accounts : (t : ℕ) (slots : List ℕ) (u : Tile) → u ∈ tiles_in t slots → u.account ≤ highest_account
 unfolding tiles_in

@@ -85,6 +85,7 @@ covered_some {t} (u ∷ ts) (Memᴰ.head e) =
     let q : u.account ≡ t.account = ap (λ (x : Tile). x.account) (sym e) in
     omega (arith, if_yes (4 ^ u.size) 0 (test_eqb u.account t.account) q, area_pos u.size)
 covered_some {t} (u ∷ ts) (Memᴰ.tail m) = omega (arith, covered_some ts m)
+covered_some {t = t} [] x' = elim x' [ ]
 
 pub covered_none : {a : ℕ} (ts : List Tile) → ((t : Tile) → t ∈ ts → t.account ≡ a → ⊥) → covered a ts ≡ 0
 unfolding covered

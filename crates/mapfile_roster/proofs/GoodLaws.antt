@@ -50,6 +50,7 @@ pub listed_some : (es : List Entry) (e : Entry) → Memᴰ e es → 0 < listed e
 unfolding listed
 listed_some (x ∷ es) e (Memᴰ.head q) = omega (arith, if_yes {A = ℕ} 1 0 (test_eqb x.account e.account) (ap (λ (y : Entry). y.account) (sym q)))
 listed_some (x ∷ es) e (Memᴰ.tail m) = omega (arith, listed_some es e m)
+listed_some [] e x' = elim x' [ ]
 
 -- an account without entries is not listed
 listed_none : (a : ℕ) (es : List Entry) → ((e : Entry) → Memᴰ e es → e.account ≡ a → ⊥) → listed a es ≡ 0

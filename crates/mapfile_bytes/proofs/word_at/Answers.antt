@@ -1,0 +1,8 @@
+-- The four bytes joined are the definition's number.
+use Rattle.mapfile_bytes.specs.Items.{word_at}
+use borrow.Author.Rules.{rules}
+use Rattle.mapfile_bytes.proofs.word_at.Goals as goal
+
+pub returns : goal.returns
+unfolding word_at
+returns c = c.join.ensures

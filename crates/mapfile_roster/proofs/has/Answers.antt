@@ -1,0 +1,8 @@
+-- The account's bit decides.
+use Rattle.mapfile_roster.specs.Accounts.{has}
+use borrow.Author.Rules.{rules}
+use Rattle.mapfile_roster.proofs.has.Goals as goal
+
+pub returns : goal.returns
+unfolding has
+returns c = search rules

@@ -1,0 +1,17 @@
+-- The loop keeps `FedOn`: the plain bed's feed goes on from the account number `done`.
+use Rattle.scan_feed.specs.Feeding.{Trails, FedOn}
+use Rattle.scan_feed.proofs.FeedTurns.{up_to, fed_none, fed_then, fed_stop, fed_pixel}
+use Rattle.quadtree.proofs.Alignment.{area_mono}
+use Rattle.tile.specs.Tile.{highest_order}
+use mathlib.Core.Path.{◌≡◌, ◌∙◌, refl}
+use Prim.Native.Nat.{◌-◌, ◌^◌, ◌≤◌}
+use native.Mathlib.Omega.{arith}
+use lib.ListN.{length}
+use borrow.Author.Rules.{rules}
+use Rattle.scan_feed.proofs.feed_pixels.Given as goal
+
+abbrev pub invariant-loop-done : goal.invariant-loop-done
+invariant-loop-done l = ((l.taken ≤ l.done) × (l.done ≤ l.upto)) × ((length l.slots ≡ length l.initial.slots) × (Trails l.kind l.slots l.top l.rear l.scanned) × FedOn l.kind l.order l.accounts l.taken l.pixels l.initial.slots l.slots l.front l.back (up_to l.done l.scanned l.top l.rear))
+
+abbrev pub decreases-loop-done : goal.decreases-loop-done
+decreases-loop-done l = l.upto - l.done

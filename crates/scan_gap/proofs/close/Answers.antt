@@ -1,0 +1,13 @@
+-- The back part moved down, and the rest cleared: `closed`.
+use Rattle.scan_gap.proofs.Parts.{closed}
+use mathlib.Core.Path.{refl}
+use native.Mathlib.Omega.{arith}
+use borrow.Author.Rules.{rules}
+use Rattle.scan_gap.proofs.close.Goals as goal
+
+pub returns : goal.returns
+returns c =
+    let a = c.args in
+    let move_down = c.move_down in
+    closed a.slots.now _ _ a.front a.back _ (omega arith) (omega arith) refl move_down.ensures c.clear_from.ensures
+    move_down.auto.s

@@ -1,0 +1,11 @@
+-- One piece moved up: `retreated`.
+use Rattle.scan_gap.proofs.Shifts.{retreated}
+use mathlib.Core.Path.{refl}
+use borrow.Author.Rules.{rules}
+use Rattle.scan_gap.proofs.retreat.Goals as goal
+
+pub returns : goal.returns
+returns c =
+    let p = c.requires in
+    let m = c.move_up in
+    retreated _ _ _ _ _ p.fits _ _ refl p.front_nonzero.0 p.front_nonzero.1 c.cut-at.ensures m.auto.s m.ensures
