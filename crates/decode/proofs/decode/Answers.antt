@@ -3,7 +3,6 @@ use mathlib.Core.Path.{sym, ◌∙◌}
 use native.Mathlib.Omega.{arith}
 use Rattle.list_check.proofs.Accepts.{list_check_valid}
 use Rattle.decode.proofs.DecodeLaws.{decode_of_refused, decode_of_length, decode_of_filled}
-use borrow.Author.Rules.{rules}
 use Rattle.decode.proofs.decode.Goals as goal
 
 pub returns-then-refusal-ne-ACCEPTED : goal.returns-then-refusal-ne-ACCEPTED

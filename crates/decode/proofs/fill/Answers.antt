@@ -1,13 +1,8 @@
 -- The tiles in turn: those ahead of i are filled.
 use mathlib.Core.Path.{sym, ◌∙◌}
-use mathlib.Core.List.{map}
-use Prim.Native.Nat.{◌-◌, ◌≤◌}
 use native.Mathlib.Omega.{arith}
-use lib.ListN.{take, drop}
-use Rattle.tile.specs.Tile.{tile_of}
 use Rattle.tile.specs.Slots.{tiles_in}
-use Rattle.quadtree.specs.Raster.{account_at}
-use Rattle.decode.proofs.FillingLaws.{Filling, filling_start, filling_first, filling_next, filling_word, filling_end}
+use Rattle.decode.proofs.FillingLaws.{filling_start, filling_first, filling_next, filling_word, filling_end}
 use borrow.Author.Rules.{rules}
 use Rattle.decode.proofs.fill.Goals as goal
 

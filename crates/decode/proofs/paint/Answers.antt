@@ -2,7 +2,6 @@
 use native.Mathlib.Omega.{arith}
 use lib.ListN.{length}
 use Rattle.decode.proofs.FilledLaws.{measured, measured_fits, measured_tile}
-use borrow.Author.Rules.{rules}
 use Rattle.decode.proofs.paint.Goals as goal
 
 pub square-requires : goal.square-requires

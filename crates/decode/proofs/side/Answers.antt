@@ -1,7 +1,6 @@
 -- A shift by the size.
 use native.Mathlib.Omega.{arith}
 use Rattle.decode.proofs.FilledLaws.{side_word}
-use borrow.Author.Rules.{rules}
 use Rattle.decode.proofs.side.Goals as goal
 
 pub returns : goal.returns

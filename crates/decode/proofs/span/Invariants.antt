@@ -1,10 +1,6 @@
 -- The bytes in turn: those up to p are set.
-use mathlib.Core.Path.{◌≡◌}
 use Prim.Native.Nat.{◌-◌, ◌≤◌}
-use native.Mathlib.Omega.{arith}
 use Rattle.decode.specs.Filled.{SpanFilled}
-use Rattle.decode.proofs.FilledLaws.{span_none, span_more}
-use borrow.Author.Rules.{rules}
 use Rattle.decode.proofs.span.Given as goal
 
 abbrev pub invariant-loop-p : goal.invariant-loop-p

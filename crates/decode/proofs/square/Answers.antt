@@ -1,9 +1,7 @@
 -- The rows in turn: the rectangle of y rows is set.
 use mathlib.Core.Path.{◌≡◌}
-use Prim.Native.Nat.{◌-◌, ◌≤◌}
 use native.Mathlib.Omega.{arith}
 use lib.ListN.{length}
-use Rattle.decode.specs.Filled.{RectangleFilled}
 use Rattle.decode.proofs.FilledLaws.{row_fits, rectangle_none, rectangle_more}
 use borrow.Author.Rules.{rules}
 use Rattle.decode.proofs.square.Goals as goal

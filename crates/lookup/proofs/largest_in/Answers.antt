@@ -1,6 +1,5 @@
 -- What lies behind the stretch and what lies ahead of it, whichever leaves less room.
 use native.Mathlib.Omega.{arith}
-use borrow.Author.Rules.{rules}
 use Rattle.lookup.proofs.StretchLaws.{largest_first, largest_ahead, largest_behind}
 use Rattle.lookup.proofs.largest_in.Goals as goal
 

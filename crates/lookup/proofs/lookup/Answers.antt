@@ -1,6 +1,5 @@
 -- Behind lookup's checks the Morton number is that of the order, and the list is valid.
 use mathlib.Core.Path.{◌∙◌, sym}
-use borrow.Author.Rules.{rules}
 use Rattle.morton.proofs.MortonLaws.{morton_lt}
 use Rattle.lookup.proofs.LookupLaws.{lookup_check_passed, point_number, lookup_of_refused, lookup_of_found}
 use Rattle.lookup.proofs.lookup.Goals as goal

@@ -1,6 +1,5 @@
 -- The opening checks, which bound the order, then 31, then 52 of the point's Morton number.
 use mathlib.Core.Path.{◌≡◌, ◌∙◌, sym}
-use borrow.Author.Rules.{rules}
 use Rattle.refusal.proofs.CheckLaws.{else_on, else_off}
 use Rattle.morton.specs.Morton.{morton, side_bits}
 use Rattle.morton.proofs.MortonLaws.{morton_lt, morton_wide}

@@ -1,8 +1,7 @@
 -- The loop keeps that the block of the next size, up to the first one, is not wholly scanned; the pixel itself is.
 use mathlib.Core.Path.{◌≡◌, ◌∙◌, sym}
-use Prim.Native.Nat.{suc, ◌-◌, ◌≤◌, ◌<◌}
+use Prim.Native.Nat.{suc, ◌-◌}
 use native.Mathlib.Omega.{arith}
-use borrow.Author.Rules.{rules}
 use Rattle.quadtree.proofs.Alignment.{corner_aligned, corner_has}
 use Rattle.scan_check.proofs.ScannedLaws.{block_passed, block_all}
 use Rattle.lookup.specs.Stretch.{Scanned}

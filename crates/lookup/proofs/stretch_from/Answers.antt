@@ -1,7 +1,6 @@
 -- The tile ahead of the place, where one is.
 use mathlib.Core.Path.{◌∙◌}
 use native.Mathlib.Omega.{arith}
-use borrow.Author.Rules.{rules}
 use Rattle.lookup.proofs.StretchLaws.{from_first, from_behind}
 use Rattle.lookup.proofs.stretch_from.Goals as goal
 

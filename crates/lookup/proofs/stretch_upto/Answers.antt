@@ -1,7 +1,6 @@
 -- The tile at the place, where one is, or the end of the bed.
 use mathlib.Core.Path.{◌∙◌}
 use native.Mathlib.Omega.{arith}
-use borrow.Author.Rules.{rules}
 use Rattle.lookup.proofs.StretchLaws.{upto_ahead, upto_end}
 use Rattle.lookup.proofs.stretch_upto.Goals as goal
 

@@ -1,5 +1,4 @@
 -- Field by field.
-use borrow.Author.Rules.{rules}
 use Rattle.lookup.proofs.tile_found.Goals as goal
 
 pub returns : goal.returns

@@ -1,6 +1,5 @@
 -- 1 and 31, and then the number.
 use mathlib.Core.Path.{sym, ◌∙◌}
-use borrow.Author.Rules.{rules}
 use Rattle.mils.proofs.CallLaws.{pixel_asked_small, hundredths_of_refused, hundredths_of_found}
 use Rattle.mils.proofs.hundredths_of.Goals as goal
 

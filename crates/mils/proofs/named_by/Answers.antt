@@ -1,7 +1,6 @@
 -- The whole mils, and the decimals written behind them.
 use native.Mathlib.Omega.{arith}
 use mathlib.Core.Path.{sym}
-use borrow.Author.Rules.{rules}
 use Rattle.mils.proofs.FormLaws.{formed, whole_length, whole_fits, behind_fits, behind_digits, named_read}
 use Rattle.mils.proofs.named_by.Goals as goal
 

@@ -1,6 +1,5 @@
 -- 1, which bounds the order, then 31.
 use mathlib.Core.Path.{sym, ◌∙◌}
-use borrow.Author.Rules.{rules}
 use Rattle.refusal.proofs.CheckLaws.{else_on, else_off}
 use Rattle.checks.proofs.AskedLaws.{order_passed}
 use Rattle.mils.specs.Calls.{pixel_asked}

@@ -1,8 +1,6 @@
 -- 1, 53 for the form, 53 for the bed.
 use mathlib.Core.Path.{sym, ap, ◌∙◌}
 use native.Mathlib.Omega.{arith}
-use borrow.Author.Rules.{rules}
-use borrow.Author.Tests.{not-true, not-false}
 use Rattle.checks.proofs.AskedLaws.{order_passed, coordinate_passed, coordinate_refused}
 use Rattle.mils.specs.Mils.{pixel_at}
 use Rattle.mils.proofs.CallLaws.{pixel_of_refused, pixel_of_formless, pixel_of_off, pixel_of_on}

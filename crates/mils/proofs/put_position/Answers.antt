@@ -1,6 +1,5 @@
 -- Digits, point, two digits, one behind the other.
 use Prim.Native.Nat.{◌/◌}
-use borrow.Author.Rules.{rules}
 use native.Mathlib.Omega.{arith}
 use Rattle.decimal.specs.Decimal.{digits_most}
 use Rattle.decimal.proofs.DecimalLaws.{digits_end}

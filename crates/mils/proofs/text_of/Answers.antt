@@ -1,6 +1,5 @@
 -- 1, 31, 26, and then the text.
 use mathlib.Core.Path.{sym, ◌∙◌}
-use borrow.Author.Rules.{rules}
 use native.Mathlib.Omega.{arith}
 use Rattle.mils.proofs.MilsLaws.{smallest_most}
 use Rattle.mils.proofs.CallLaws.{pixel_asked_small, text_of_refused, text_of_few, text_of_done}

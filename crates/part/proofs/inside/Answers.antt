@@ -11,8 +11,6 @@ use Rattle.part.proofs.InsideLaws.{part_check_passed, to_le, inside_none, inside
 use mathlib.Core.Path.{◌≡◌, ◌∙◌, ap}
 use Prim.Native.Nat.{ℕ, ◌+◌, ◌≤◌}
 use native.Mathlib.Omega.{arith}
-use lib.ListN.{length}
-use borrow.Author.Rules.{rules}
 use Rattle.part.proofs.inside.Goals as goal
 
 answer : {p q l m : ℕ} → p ≡ q → l ≡ m →

@@ -1,6 +1,5 @@
 -- The checks of the list bound the order.
 use mathlib.Core.Path.{◌∙◌, sym}
-use borrow.Author.Rules.{rules}
 use Rattle.refusal.proofs.CheckLaws.{else_on, else_off}
 use Rattle.list_check.proofs.Accepts.{list_check_order}
 use Rattle.part.specs.Part.{part_check}

@@ -1,7 +1,6 @@
 -- Behind the checks the part is that of a valid list.
 use Rattle.part.proofs.InsideLaws.{part_of_refused, part_of_accepted}
 use mathlib.Core.Path.{◌∙◌, sym}
-use borrow.Author.Rules.{rules}
 use Rattle.part.proofs.quadrant_part.Goals as goal
 
 pub returns-then-number-ne-ACCEPTED : goal.returns-then-number-ne-ACCEPTED

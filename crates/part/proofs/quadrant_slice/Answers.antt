@@ -1,7 +1,6 @@
 -- The part that the companion answers, cut out of the slots.
 use Rattle.part.proofs.InsideLaws.{part_of_fits, slice_place, slice_of_cut}
 use native.Mathlib.Omega.{arith}
-use borrow.Author.Rules.{rules}
 use Rattle.part.proofs.quadrant_slice.Goals as goal
 
 pub returns : goal.returns
@@ -10,7 +9,7 @@ returns c =
     let p = c.quadrant_part-part in
     record {
       ref_ptr_value = slice_place a.order a.tiles a.slots.now a.corner a.size p.result p.ensures a.slots.ref_ptr;
-      result_value = slice_of_cut a.order a.tiles a.slots.now a.corner a.size p.result p.ensures
+      result_value = slice_of_cut a.order a.tiles a.slots.now a.corner a.size p.result p.ensures;
     }
 
 pub overflow_add-end : goal.overflow_add-end

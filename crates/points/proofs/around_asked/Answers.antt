@@ -1,6 +1,5 @@
 -- 1 and 31, then the size.
 use mathlib.Core.Path.{◌∙◌, sym}
-use borrow.Author.Rules.{rules}
 use native.Mathlib.Omega.{arith}
 use Rattle.basics.proofs.Tests.{test_leb}
 use Rattle.refusal.proofs.CheckLaws.{must_on, must_off, else_on, else_off}

@@ -1,7 +1,6 @@
 -- Past 32 the size is that of a block of the bed.
 use mathlib.Core.Path.{sym, ◌∙◌}
 use native.Mathlib.Omega.{arith}
-use borrow.Author.Rules.{rules}
 use Rattle.points.proofs.PointsLaws.{around_asked_passed, around_of_refused, around_of_found}
 use Rattle.points.proofs.block_around.Goals as goal
 

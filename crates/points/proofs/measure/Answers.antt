@@ -1,7 +1,6 @@
 -- Past 1 the side and the pixels fit into 32 bits.
 use native.Mathlib.Omega.{arith}
 use mathlib.Core.Path.{sym, ◌∙◌}
-use borrow.Author.Rules.{rules}
 use Rattle.checks.proofs.AskedLaws.{order_passed, shift_side}
 use Rattle.points.proofs.PointsLaws.{extent_of_refused, extent_of_measured}
 use Rattle.points.proofs.measure.Goals as goal

@@ -1,5 +1,4 @@
 -- The number by all bits is that of the order.
-use borrow.Author.Rules.{rules}
 use Rattle.points.proofs.PointsLaws.{number_of_refused, number_of_found}
 use Rattle.points.proofs.number_at.Goals as goal
 

@@ -1,5 +1,4 @@
 -- Column and row by all bits are those of the order.
-use borrow.Author.Rules.{rules}
 use Rattle.points.proofs.PointsLaws.{point_of_refused, point_of_found}
 use Rattle.points.proofs.point_of.Goals as goal
 

@@ -1,5 +1,4 @@
 -- Lookup's answer, then 34, then the table for the account found.
-use borrow.Author.Rules.{rules}
 use Rattle.rights.proofs.RightsLaws.{rights_of_lookup, rights_of_asker, rights_of_answer}
 use Rattle.rights.proofs.rights.Goals as goal
 

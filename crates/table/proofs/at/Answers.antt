@@ -1,5 +1,4 @@
 -- The byte at the row and the column.
-use borrow.Author.Rules.{rules}
 use mathlib.Core.Path.{refl}
 use Rattle.table.specs.Table.{says}
 use Rattle.table.proofs.at.Goals as goal

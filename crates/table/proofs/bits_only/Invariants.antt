@@ -1,9 +1,6 @@
 -- The loop keeps that no byte ahead of i is above 1.
 use Prim.Native.Nat.{ℕ, ◌-◌, ◌≤◌, ◌<◌}
-use native.Mathlib.Omega.{arith}
-use borrow.Author.Rules.{rules}
 use lib.ListN.{length, get_or}
-use Rattle.table.proofs.LoadLaws.{bits_next, bits_not, bits_all}
 use Rattle.table.proofs.bits_only.Given as goal
 
 abbrev pub invariant-loop-i : goal.invariant-loop-i

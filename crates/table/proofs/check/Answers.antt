@@ -1,8 +1,7 @@
 -- 55 for the length, 55 for a byte, then 56.
 use mathlib.Core.Path.{sym, ◌∙◌}
 use native.Mathlib.Omega.{arith}
-use borrow.Author.Rules.{rules}
-use borrow.Author.Tests.{eq-eqb, ne_eqb, not-true, not-false}
+use borrow.Author.Tests.{eq-eqb, ne_eqb}
 use lib.ListN.{length}
 use Rattle.refusal.specs.Checks.{must}
 use Rattle.table.specs.Load.{table_length, table_check}

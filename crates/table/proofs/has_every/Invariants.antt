@@ -1,10 +1,7 @@
 -- The loop keeps that the row has every yes of the other in the columns ahead.
-use mathlib.Core.Path.{sym, ◌∙◌}
 use Prim.Native.Nat.{◌-◌, ◌≤◌}
-use native.Mathlib.Omega.{arith}
-use borrow.Author.Rules.{rules}
 use Rattle.table.specs.Table.{columns}
-use Rattle.table.proofs.LoadLaws.{Every, every_next, every_not, every_all}
+use Rattle.table.proofs.LoadLaws.{Every}
 use Rattle.table.proofs.has_every.Given as goal
 
 abbrev pub invariant-loop-column : goal.invariant-loop-column

@@ -1,6 +1,5 @@
 -- No where the row says yes; else what the other says.
 use mathlib.Core.Path.{sym, ◌∙◌}
-use borrow.Author.Rules.{rules}
 use Rattle.table.specs.Table.{says}
 use Rattle.table.proofs.LoadLaws.{lacks_no, lacks_is}
 use Rattle.table.proofs.lacks.Goals as goal

@@ -1,7 +1,6 @@
 -- Refused, the table is as it was; else it is the bytes behind the count.
 use native.Mathlib.Omega.{arith}
 use lib.ListN.{length}
-use borrow.Author.Rules.{rules}
 use Rattle.table.proofs.CallLaws.{load_of_refused, load_of_done, load_check_some}
 use Rattle.table.proofs.load.Goals as goal
 

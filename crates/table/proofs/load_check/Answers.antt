@@ -1,7 +1,6 @@
 -- No count, another count, other bytes lent; else the table decides.
 use mathlib.Core.Path.{◌∙◌}
 use native.Mathlib.Omega.{arith}
-use borrow.Author.Rules.{rules}
 use borrow.Author.Tests.{eq-eqb, ne_eqb}
 use lib.ListN.{get_or}
 use Rattle.refusal.specs.Checks.{must}

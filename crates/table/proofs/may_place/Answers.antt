@@ -1,6 +1,5 @@
 -- The old table where a load would refuse the one handed in; else that one.
 use native.Mathlib.Omega.{arith}
-use borrow.Author.Rules.{rules}
 use Rattle.table.specs.Table.{class_of}
 use Rattle.table.proofs.TableLaws.{row_of_lt, pixel_kind_lt}
 use Rattle.table.proofs.CountsLaws.{table_check_passed, may_loaded, may_old}

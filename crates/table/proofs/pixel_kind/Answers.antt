@@ -4,7 +4,6 @@ use Rattle.basics.specs.Choice.{if}
 use Rattle.table.specs.Table.{class_of, pixel_kind}
 use Rattle.table.proofs.TableLaws.{row_of_lt, held_by_row}
 use native.Mathlib.Omega.{arith}
-use borrow.Author.Rules.{rules}
 use Rattle.table.proofs.pixel_kind.Goals as goal
 
 pub returns-then-asking-holder : goal.returns-then-asking-holder

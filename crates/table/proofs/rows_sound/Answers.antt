@@ -1,6 +1,5 @@
 -- The definition's tests in their order.
 use mathlib.Core.Path.{sym, ◌∙◌}
-use borrow.Author.Rules.{rules}
 use Rattle.table.specs.Table.{row_of}
 use Rattle.table.specs.Load.{sound}
 use Rattle.table.proofs.LoadLaws.{sound_rest}
