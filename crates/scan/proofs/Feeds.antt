@@ -12,7 +12,7 @@ use Rattle.refusal.specs.Refusal.{accepted}
 use Rattle.refusal.specs.Checks.{After}
 use Rattle.refusal.proofs.CheckLaws.{unless_on, unless_off, by_unless}
 use Rattle.tile.specs.Tile.{Tile}
-use Rattle.tile.specs.Slots.{tiles, tiles_in, filled}
+use Rattle.tile.specs.Slots.{tiles_in, filled}
 use Rattle.tile.proofs.SlotsLaws.{words_tiles, filled_length}
 use Rattle.quadtree.specs.Raster.{account_at}
 use Rattle.quadtree.specs.Quadtree.{quadtree}

@@ -22,7 +22,7 @@ use Rattle.bed.specs.Places.{place_of}
 use Rattle.bed.specs.declared.Kind.TheVariants.{Rows}
 use Rattle.bed.proofs.PlaceLaws.{area_sides, place_of_lt}
 use Rattle.tile.specs.Slots.{tiles}
-use Rattle.scan_gap.specs.Gap.{held, Fits, Moved}
+use Rattle.scan_gap.specs.Gap.{Fits, Moved}
 use Rattle.scan_block.specs.Blocks.{mixed, Advances, Quad, Legible, Bytes, Blocked, BlockFits}
 use Rattle.scan_block.proofs.Advance.{mixed_out, advance_then, advance_is}
 

@@ -13,7 +13,7 @@ use lib.Seq.{slice, slice-cons, length-slice, length-take-le, take-take, take-ap
 use Rattle.tile.specs.Tile.{tile_of}
 use Rattle.list_words.proofs.Moves.{front_pieces, back_pieces}
 use Rattle.list_search.specs.Cut.{Cut}
-use Rattle.scan_gap.specs.Gap.{held, Fits, Low, High, Moved}
+use Rattle.scan_gap.specs.Gap.{Fits, Low, High, Moved}
 
 pub stayed : (s : List ℕ) (i b z : ℕ) → Fits s i b → Low s i z → High s b z → Moved s s i b z (record { front = i; back = b })
 stayed s i b z fit low high = record { fits = fit; held = refl; low = low; high = high }

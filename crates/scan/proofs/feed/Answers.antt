@@ -2,7 +2,6 @@
 use Rattle.scan.proofs.Feeds.{feed_refused, feed_done}
 use Rattle.scan_check.proofs.Opening.{opening_opened}
 use mathlib.Core.Path.{◌∙◌, sym}
-use borrow.Author.Rules.{rules}
 use Rattle.scan.proofs.feed.Goals as goal
 
 pub returns-then-number-ne-ACCEPTED : goal.returns-then-number-ne-ACCEPTED

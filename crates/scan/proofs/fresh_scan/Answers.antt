@@ -2,7 +2,6 @@
 use Rattle.scan.specs.FreshScan.{fresh_of}
 use Rattle.refusal.specs.Checks.{must, unless}
 use borrow.Author.Tests.{lt-leb, le-leb}
-use borrow.Author.Rules.{rules}
 use Rattle.scan.proofs.fresh_scan.Goals as goal
 
 pub returns-then-order-gt-HIGHEST_ORDER : goal.returns-then-order-gt-HIGHEST_ORDER

@@ -2,8 +2,7 @@
 use Rattle.scan_band.proofs.Numbers.{many_word}
 use Prim.Native.Nat.{◌^◌, ◌%◌}
 use mathlib.Core.Path.{◌∙◌, ap}
-use Prim.Native.Nat.{ℕ, ◌-◌, ◌*◌}
-use borrow.Author.Rules.{rules}
+use Prim.Native.Nat.{ℕ, ◌*◌}
 use Rattle.scan_band.proofs.band_pixels.Goals as goal
 
 pub returns : goal.returns

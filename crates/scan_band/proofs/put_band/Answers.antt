@@ -1,12 +1,11 @@
 -- The loop keeps `Laying`: the band is put up to a column.
 use Rattle.scan_block.proofs.Putting.{side_least}
-use Rattle.scan_band.proofs.Laying.{Laying, laying_start, laying_block, laying_legible, laying_more, laying_done}
+use Rattle.scan_band.proofs.Laying.{laying_start, laying_block, laying_legible, laying_more, laying_done}
 use Rattle.tile.specs.Tile.{highest_order}
 use lib.Pow.{pow_pos}
 use mathlib.Core.Path.{refl}
-use Prim.Native.Nat.{◌-◌, ◌^◌, ◌≤◌}
+use Prim.Native.Nat.{◌^◌, ◌≤◌}
 use native.Mathlib.Omega.{arith}
-use borrow.Author.Rules.{rules}
 use Rattle.scan_band.proofs.put_band.Goals as goal
 
 pub returns : goal.returns

@@ -1,12 +1,6 @@
 -- The loop keeps `Laying`: the band is put up to a column.
-use Rattle.scan_block.proofs.Putting.{side_least}
-use Rattle.scan_band.proofs.Laying.{Laying, laying_start, laying_block, laying_legible, laying_more, laying_done}
-use Rattle.tile.specs.Tile.{highest_order}
-use lib.Pow.{pow_pos}
-use mathlib.Core.Path.{refl}
-use Prim.Native.Nat.{◌-◌, ◌^◌, ◌≤◌}
-use native.Mathlib.Omega.{arith}
-use borrow.Author.Rules.{rules}
+use Rattle.scan_band.proofs.Laying.{Laying}
+use Prim.Native.Nat.{◌-◌}
 use Rattle.scan_band.proofs.put_band.Given as goal
 
 abbrev pub invariant-loop-column : goal.invariant-loop-column

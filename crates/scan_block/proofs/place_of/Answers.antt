@@ -2,9 +2,8 @@
 use Prim.Native.Nat.{◌^◌, ◌%◌}
 use Rattle.scan_block.proofs.Putting.{place_bound, place_number}
 use mathlib.Core.Path.{ap}
-use Prim.Native.Nat.{ℕ, ◌-◌, ◌*◌}
+use Prim.Native.Nat.{ℕ, ◌*◌}
 use native.Mathlib.Omega.{arith}
-use borrow.Author.Rules.{rules}
 use Rattle.scan_block.proofs.place_of.Goals as goal
 
 pub overflow_add-result : goal.overflow_add-result

@@ -1,7 +1,6 @@
 -- Nothing to put, no slot, or the word is stored.
 use Rattle.scan_block.proofs.Quads.{alone_none, alone_full, alone_store}
 use native.Mathlib.Omega.{arith}
-use borrow.Author.Rules.{rules}
 use Rattle.scan_block.proofs.put_alone.Goals as goal
 
 pub returns-then-account-eq0 : goal.returns-then-account-eq0

@@ -1,14 +1,11 @@
 -- The loop keeps `Putting`: the block is put up to z, whose account is number `at`.
-use Rattle.scan_block.proofs.Putting.{Putting, putting_start, putting_room, putting_bytes, putting_next, putting_quad, putting_done, square_place, square_small}
+use Rattle.scan_block.proofs.Putting.{putting_start, putting_room, putting_bytes, putting_next, putting_quad, putting_done, square_place, square_small}
 use Rattle.quadtree.proofs.Alignment.{area_mono, area_pos}
-use Rattle.bed.specs.Places.{place_of}
-use Rattle.bed.specs.declared.Kind.TheVariants.{Rows}
 use Rattle.morton.specs.Morton.{morton, side_bits}
 use Rattle.tile.specs.Tile.{highest_order}
-use mathlib.Core.Path.{◌≡◌, ◌∙◌, ap}
-use Prim.Native.Nat.{ℕ, ◌+◌, ◌-◌, ◌^◌, ◌<◌, ◌≤◌}
+use mathlib.Core.Path.{◌∙◌, ap}
+use Prim.Native.Nat.{ℕ, ◌+◌, ◌-◌, ◌^◌, ◌≤◌}
 use native.Mathlib.Omega.{arith}
-use borrow.Author.Rules.{rules}
 use Rattle.scan_block.proofs.put_block.Goals as goal
 
 pub returns : goal.returns

@@ -1,8 +1,6 @@
 -- Four accounts that are the same are one tile, or nothing; else the four pixels go one behind the other.
 use Rattle.scan_block.proofs.Quads.{quad_skip, quad_put, quad_mixed}
-use Prim.Native.Nat.{◌-◌}
 use native.Mathlib.Omega.{arith}
-use borrow.Author.Rules.{rules}
 use Rattle.scan_block.proofs.put_quad.Goals as goal
 
 pub returns-then-a-eq0 : goal.returns-then-a-eq0

@@ -3,7 +3,6 @@ use Rattle.scan_block.proofs.Quads.{level_some}
 use Rattle.scan_block.proofs.Advance.{advance_put}
 use Prim.Native.Nat.{◌+◌}
 use native.Mathlib.Omega.{arith}
-use borrow.Author.Rules.{rules}
 use Rattle.scan_block.proofs.put_same.Goals as goal
 
 pub returns : goal.returns

@@ -1,9 +1,6 @@
 -- The loop keeps `Lining`: the stretch is put up to the account number i.
-use Rattle.scan_block.proofs.Lines.{Lining, lining_start, lining_room, lining_aligned, lining_low, lining_next, lining_done}
-use mathlib.Core.Path.{◌≡◌}
-use Prim.Native.Nat.{◌+◌, ◌-◌, ◌≤◌}
-use native.Mathlib.Omega.{arith}
-use borrow.Author.Rules.{rules}
+use Rattle.scan_block.proofs.Lines.{Lining}
+use Prim.Native.Nat.{◌-◌, ◌≤◌}
 use Rattle.scan_block.proofs.put_stretch.Given as goal
 
 abbrev pub invariant-loop-i : goal.invariant-loop-i

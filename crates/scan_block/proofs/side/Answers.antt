@@ -1,8 +1,6 @@
 -- A power of two by a shift.
 use Rattle.scan_block.proofs.Putting.{side_word}
-use Prim.Native.Nat.{◌-◌}
 use native.Mathlib.Omega.{arith}
-use borrow.Author.Rules.{rules}
 use Rattle.scan_block.proofs.side.Goals as goal
 
 pub returns : goal.returns

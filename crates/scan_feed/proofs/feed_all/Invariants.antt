@@ -1,9 +1,8 @@
 -- The loop keeps `FedOn` from the start of the feed on: the plain bed's feed goes on from the account number `taken`.
 use Rattle.scan_feed.specs.Feeding.{FedOn}
-use Rattle.scan_feed.proofs.FeedTurns.{up_to, fed_then, opened_none, opened_holds, fed_refused, fed_end}
-use mathlib.Core.Path.{◌≡◌, ◌∙◌, refl}
+use Rattle.scan_feed.proofs.FeedTurns.{up_to}
+use mathlib.Core.Path.{◌≡◌}
 use Prim.Native.Nat.{◌-◌}
-use native.Mathlib.Omega.{arith}
 use lib.ListN.{length}
 use Rattle.scan_feed.proofs.feed_all.Given as goal
 

@@ -2,9 +2,8 @@
 use Rattle.scan_feed.proofs.FeedLines.{fed_line}
 use Rattle.quadtree.proofs.Alignment.{area_mono}
 use Rattle.tile.specs.Tile.{highest_order}
-use Prim.Native.Nat.{◌-◌, ◌^◌, ◌≤◌}
+use Prim.Native.Nat.{◌^◌, ◌≤◌}
 use native.Mathlib.Omega.{arith}
-use borrow.Author.Rules.{rules}
 use Rattle.scan_feed.proofs.feed_morton.Goals as goal
 
 pub returns-then-count-gt0 : goal.returns-then-count-gt0

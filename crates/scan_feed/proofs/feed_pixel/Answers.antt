@@ -1,7 +1,6 @@
 -- The checks in turn, and the pixel put.
 use Rattle.scan_feed.proofs.PixelSteps.{stepped_full, stepped_account, stepped_nobody, stepped_slots, stepped_done}
 use native.Mathlib.Omega.{arith}
-use borrow.Author.Rules.{rules}
 use Rattle.scan_feed.proofs.feed_pixel.Goals as goal
 
 pub returns-then-pixels-area : goal.returns-then-pixels-area

@@ -1,13 +1,9 @@
 -- The loop keeps `FedOn`: the plain bed's feed goes on from the account number `done`.
 use Rattle.scan_feed.specs.Feeding.{Trails, FedOn}
-use Rattle.scan_feed.proofs.FeedTurns.{up_to, fed_none, fed_then, fed_stop, fed_pixel}
-use Rattle.quadtree.proofs.Alignment.{area_mono}
-use Rattle.tile.specs.Tile.{highest_order}
-use mathlib.Core.Path.{◌≡◌, ◌∙◌, refl}
-use Prim.Native.Nat.{◌-◌, ◌^◌, ◌≤◌}
-use native.Mathlib.Omega.{arith}
+use Rattle.scan_feed.proofs.FeedTurns.{up_to}
+use mathlib.Core.Path.{◌≡◌}
+use Prim.Native.Nat.{◌-◌, ◌≤◌}
 use lib.ListN.{length}
-use borrow.Author.Rules.{rules}
 use Rattle.scan_feed.proofs.feed_pixels.Given as goal
 
 abbrev pub invariant-loop-done : goal.invariant-loop-done

@@ -4,10 +4,9 @@ use Rattle.scan_feed.proofs.NextPlace.{rows_morton}
 use Rattle.quadtree.proofs.Alignment.{area_mono}
 use Rattle.tile.specs.Tile.{highest_order}
 use mathlib.Core.Path.{refl}
-use Prim.Native.Nat.{◌-◌, ◌^◌, ◌≤◌}
+use Prim.Native.Nat.{◌^◌, ◌≤◌}
 use native.Mathlib.Omega.{arith}
 use lib.Pow.{pow_pos}
-use borrow.Author.Rules.{rules}
 use Rattle.bed.specs.declared.Kind.TheVariants.{Rows}
 use Rattle.scan_feed.proofs.feed_rows.Goals as goal
 

@@ -1,5 +1,4 @@
 -- By kind.
-use borrow.Author.Rules.{rules}
 use Rattle.scan_feed.proofs.feed_some.Goals as goal
 
 pub returns-in-Rows : goal.returns-in-Rows

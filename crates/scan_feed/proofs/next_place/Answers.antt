@@ -5,7 +5,6 @@ use Rattle.tile.specs.Tile.{highest_order}
 use mathlib.Core.Path.{refl}
 use Prim.Native.Nat.{◌^◌, ◌≤◌}
 use native.Mathlib.Omega.{arith}
-use borrow.Author.Rules.{rules}
 use Rattle.scan_feed.proofs.next_place.Goals as goal
 
 pub overflow_sub-column : goal.overflow_sub-column

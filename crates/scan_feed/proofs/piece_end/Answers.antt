@@ -1,8 +1,6 @@
 -- What is left of the row is at least a pixel.
 use native.Mathlib.Nat.{mod-lt}
-use Prim.Native.Nat.{◌-◌}
 use native.Mathlib.Omega.{arith}
-use borrow.Author.Rules.{rules}
 use Rattle.scan_feed.proofs.piece_end.Goals as goal
 
 pub returns-then-left-count : goal.returns-then-left-count

@@ -2,7 +2,6 @@
 use Rattle.scan_feed.proofs.NextPlace.{place_low, rows_morton, place_next}
 use mathlib.Core.Path.{◌∙◌, sym}
 use native.Mathlib.Omega.{arith}
-use borrow.Author.Rules.{rules}
 use Rattle.scan_feed.proofs.put_next.Goals as goal
 
 pub returns-in-Rows : goal.returns-in-Rows
@@ -33,10 +32,10 @@ put-requires c =
     let q = next_place.ensures in record {
       fits = s.requires.fits.0;
       z_bound = (
-          place_low s.args.kind s.args.order s.args.pixels _ s.requires.order_le_highest_order.0 s.requires.order_le_highest_order.1 q.z,
-          s.requires.account_nonzero.0,
-          s.requires.account_nonzero.1,
-        );
+        place_low s.args.kind s.args.order s.args.pixels _ s.requires.order_le_highest_order.0 s.requires.order_le_highest_order.1 q.z,
+        s.requires.account_nonzero.0,
+        s.requires.account_nonzero.1,
+      );
       levels = q.levels;
     }
 
@@ -50,10 +49,10 @@ append-requires c =
     record {
       front_in_bounds = (omega (arith, s.requires.fits.0), rw (sym z) at (s.requires.fits.1 m).1);
       z_bound = (
-          place_low s.args.kind s.args.order s.args.pixels _
-              s.requires.order_le_highest_order.0 s.requires.order_le_highest_order.1 q.z,
-          s.requires.account_nonzero.0,
-          s.requires.account_nonzero.1,
-        );
+        place_low s.args.kind s.args.order s.args.pixels _
+            s.requires.order_le_highest_order.0 s.requires.order_le_highest_order.1 q.z,
+        s.requires.account_nonzero.0,
+        s.requires.account_nonzero.1,
+      );
       levels = q.levels;
     }

@@ -4,7 +4,6 @@ use mathlib.Core.Path.{◌≡◌}
 use Prim.Native.Nat.{◌+◌, min}
 use lib.Count.{count_trailing_zeros}
 use native.Mathlib.Omega.{arith}
-use borrow.Author.Rules.{rules}
 use Rattle.scan_feed.proofs.row_levels.Goals as goal
 
 pub returns-then-across-down : goal.returns-then-across-down

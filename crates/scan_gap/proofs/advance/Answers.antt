@@ -1,7 +1,6 @@
 -- One piece moved down: `advanced`.
 use Rattle.scan_gap.proofs.Shifts.{advanced}
 use mathlib.Core.Path.{refl}
-use borrow.Author.Rules.{rules}
 use Rattle.scan_gap.proofs.advance.Goals as goal
 
 pub returns : goal.returns

@@ -4,7 +4,6 @@ use Rattle.scan_gap.proofs.Shifts.{stayed}
 use mathlib.Core.Path.{◌∙◌, refl, sym}
 use native.Mathlib.Omega.{arith}
 use lib.ListN.{length}
-use borrow.Author.Rules.{rules}
 use Rattle.scan_gap.proofs.append.Goals as goal
 
 pub returns : goal.returns

@@ -2,7 +2,6 @@
 use Rattle.scan_gap.proofs.Parts.{closed}
 use mathlib.Core.Path.{refl}
 use native.Mathlib.Omega.{arith}
-use borrow.Author.Rules.{rules}
 use Rattle.scan_gap.proofs.close.Goals as goal
 
 pub returns : goal.returns

@@ -1,7 +1,6 @@
 -- The last tile of the front part starts ahead of z, and the first of the back part does not.
 use mathlib.Core.Path.{sym}
 use native.Mathlib.Omega.{arith}
-use borrow.Author.Rules.{rules}
 use Rattle.list_push.proofs.SiblingWords.{true_false}
 use Rattle.scan_gap.proofs.lies.Goals as goal
 

@@ -2,7 +2,6 @@
 use Rattle.scan_gap.proofs.GapStores.{pushed_full, pushed_store}
 use Rattle.quadtree.proofs.Alignment.{area_pos}
 use native.Mathlib.Omega.{arith}
-use borrow.Author.Rules.{rules}
 use Rattle.scan_gap.proofs.push.Goals as goal
 
 pub returns-then-at-back : goal.returns-then-at-back

@@ -3,7 +3,6 @@ use Rattle.scan_gap.proofs.Pixel.{placed_pushed}
 use Rattle.scan_gap.proofs.Shifts.{stayed}
 use mathlib.Core.Path.{refl}
 use native.Mathlib.Omega.{arith}
-use borrow.Author.Rules.{rules}
 use Rattle.scan_gap.proofs.put.Goals as goal
 
 pub returns-then-lies : goal.returns-then-lies

@@ -1,7 +1,6 @@
 -- One piece moved up: `retreated`.
 use Rattle.scan_gap.proofs.Shifts.{retreated}
 use mathlib.Core.Path.{refl}
-use borrow.Author.Rules.{rules}
 use Rattle.scan_gap.proofs.retreat.Goals as goal
 
 pub returns : goal.returns

@@ -1,7 +1,6 @@
 -- From the back, from the front, or the gap lies at z from both sides.
 use Rattle.scan_gap.proofs.Shifts.{stayed}
 use native.Mathlib.Omega.{arith}
-use borrow.Author.Rules.{rules}
 use Rattle.scan_gap.proofs.seek.Goals as goal
 
 pub returns-else-corner-z : goal.returns-else-corner-z

@@ -1,9 +1,7 @@
 -- What is looked at fits in every respect, and none of it is above the highest account.
 use Rattle.scan_suit.proofs.Stretched.{stretch_taken}
-use Prim.Native.Nat.{◌-◌}
 use mathlib.Core.Path.{refl}
 use native.Mathlib.Omega.{arith}
-use borrow.Author.Rules.{rules}
 use Rattle.scan_suit.proofs.stretch_size.Goals as goal
 
 pub returns-then-pixels-ne0 : goal.returns-then-pixels-ne0

@@ -1,12 +1,8 @@
 -- So far the sum is that of the quads from the first on.
 use Rattle.scan_weigh.specs.Weighed.{quad_from}
 use Rattle.scan_stretch.specs.Weight.{total}
-use Rattle.scan_stretch.proofs.Totals.{total_none, total_more}
-use Rattle.scan_weigh.proofs.Weighing.{quad_most, quads_most}
 use mathlib.Core.Path.{◌≡◌}
 use Prim.Native.Nat.{◌+◌, ◌-◌, ◌*◌, ◌≤◌}
-use native.Mathlib.Omega.{arith}
-use borrow.Author.Rules.{rules}
 use Rattle.scan_weigh.proofs.few.Given as goal
 
 abbrev pub invariant-loop-j : goal.invariant-loop-j

@@ -1,10 +1,7 @@
 -- So far none is above the highest.
-use Rattle.scan_weigh.specs.Weighed.{NoneAbove}
 use Rattle.scan_weigh.proofs.Weighing.{none_above, above_more}
 use mathlib.Core.Path.{◌≡◌}
-use Prim.Native.Nat.{◌-◌, ◌≤◌}
 use native.Mathlib.Omega.{arith}
-use borrow.Author.Rules.{rules}
 use Rattle.scan_weigh.proofs.highest.Goals as goal
 
 pub returns : goal.returns

@@ -1,14 +1,12 @@
 -- So far the sum is that of the pairs ahead.
 use Rattle.scan_weigh.specs.Weighed.{pair_from}
-use Rattle.scan_stretch.specs.Weight.{total}
 use Rattle.scan_stretch.proofs.Totals.{total_start, total_next}
 use Rattle.scan_weigh.proofs.Weighing.{quads_most, pairs_most, pairs_room}
 use native.Mathlib.Nat.{add-mul}
 use mathlib.Core.Path.{◌≡◌}
-use Prim.Native.Nat.{◌+◌, ◌-◌, ◌*◌, ◌≤◌}
+use Prim.Native.Nat.{◌+◌, ◌*◌}
 use native.Mathlib.Omega.{arith}
 use lib.ListN.{length}
-use borrow.Author.Rules.{rules}
 use Rattle.scan_weigh.proofs.rows.Goals as goal
 
 pub returns : goal.returns

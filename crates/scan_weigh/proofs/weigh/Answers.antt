@@ -1,7 +1,6 @@
 -- All three tests passed: the accounts are the same. One of them failed: they are not.
 use Rattle.scan_stretch.proofs.Quads.{one_most, weight_same, weight_mixed}
 use native.Mathlib.Omega.{arith}
-use borrow.Author.Rules.{rules}
 use Rattle.scan_weigh.proofs.weigh.Goals as goal
 
 pub returns-then-c-d : goal.returns-then-c-d
