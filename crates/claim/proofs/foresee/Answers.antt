@@ -28,10 +28,18 @@ returns-then-number-ne-ACCEPTED c =
     (c.if-number-ne-ACCEPTED.true, r ∙ sym check.ensures)
 
 pub returns : goal.returns
-returns c = (known c.args.scan c.args.slots.now c.args.corner c.args.size c.args.account (sym c.plan_check-number.ensures ∙ c.if-number-ne-ACCEPTED.false) c.plan-planned.ensures, omega (arith, c.if-slots-after.false))
+returns c =
+    let a = c.args in
+    let passed = sym c.plan_check-number.ensures ∙ c.if-number-ne-ACCEPTED.false in
+    (known a.scan a.slots.now a.corner a.size a.account passed c.plan-planned.ensures, omega arith)
 
 pub returns-then-slots-after : goal.returns-then-slots-after
-returns-then-slots-after c = ((λ e. omega arith), known_few (known c.args.scan c.args.slots.now c.args.corner c.args.size c.args.account (sym c.plan_check-number.ensures ∙ c.if-number-ne-ACCEPTED.false) c.plan-planned.ensures) c.if-slots-after.true)
+returns-then-slots-after c =
+    let a = c.args in
+    let passed = sym c.plan_check-number.ensures ∙ c.if-number-ne-ACCEPTED.false in
+    ((λ e. omega arith), known_few (known a.scan a.slots.now a.corner a.size a.account passed c.plan-planned.ensures) (omega arith))
 
 pub plan-planned-requires : goal.plan-planned-requires
-plan-planned-requires c = checked_claimable c.args.scan c.args.slots.now c.args.corner c.args.size c.args.account (sym c.plan_check-number.ensures ∙ c.if-number-ne-ACCEPTED.false)
+plan-planned-requires c =
+    let a = c.args in
+    checked_claimable a.scan a.slots.now a.corner a.size a.account (sym c.plan_check-number.ensures ∙ c.if-number-ne-ACCEPTED.false)

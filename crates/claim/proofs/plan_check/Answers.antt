@@ -11,7 +11,9 @@ unfolding plan_check
 returns-then-opened-ne-ACCEPTED c = rw (sym c.open_check-opened.ensures) (sym (else_off _ _ c.if-opened-ne-ACCEPTED.true))
 
 pub block-block-requires : goal.block-block-requires
-block-block-requires c = (opening_opened c.args.scan c.args.slots.now (sym c.open_check-opened.ensures ∙ c.if-opened-ne-ACCEPTED.false)).order
+block-block-requires c =
+    let a = c.args in
+    (opening_opened a.scan a.slots.now (sym c.open_check-opened.ensures ∙ c.if-opened-ne-ACCEPTED.false)).order
 
 pub returns-then-block-ne-ACCEPTED : goal.returns-then-block-ne-ACCEPTED
 unfolding plan_check
@@ -23,7 +25,7 @@ pub block_scanned-scanned-requires : goal.block_scanned-scanned-requires
 block_scanned-scanned-requires c =
     let a = c.args in
     let p = block_passed a.scan.order a.corner a.size (sym c.block-block.ensures ∙ c.if-block-ne-ACCEPTED.false) in
-    ((opening_opened c.args.scan c.args.slots.now (sym c.open_check-opened.ensures ∙ c.if-opened-ne-ACCEPTED.false)).order, p.0, p.1.0, p.1.1)
+    ((opening_opened a.scan a.slots.now (sym c.open_check-opened.ensures ∙ c.if-opened-ne-ACCEPTED.false)).order, p.0, p.1.0, p.1.1)
 
 pub returns-then-scanned-ne-ACCEPTED : goal.returns-then-scanned-ne-ACCEPTED
 unfolding plan_check
