@@ -1,7 +1,6 @@
 -- A refusal up to the head's end is the list's, and so is none where the list ends there; else the rest decides.
 use mathlib.Core.Path.{◌∙◌, sym}
 use native.Mathlib.Omega.{arith}
-use borrow.Author.Rules.{rules}
 use Rattle.list_check.proofs.HeadLaws.{begun_ready}
 use Rattle.kingletbed.proofs.kb_check.Goals as goal
 

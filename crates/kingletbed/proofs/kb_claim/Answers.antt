@@ -1,5 +1,4 @@
 -- The call's own contract, of the record that the numbers give.
-use borrow.Author.Rules.{rules}
 use Rattle.kingletbed.proofs.kb_claim.Goals as goal
 
 pub returns : goal.returns

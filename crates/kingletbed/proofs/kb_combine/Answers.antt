@@ -1,5 +1,4 @@
 -- The call's own contract, of the choice of the number.
-use borrow.Author.Rules.{rules}
 use Rattle.kingletbed.proofs.kb_combine.Goals as goal
 
 pub returns : goal.returns

@@ -1,5 +1,4 @@
 -- The call's answer, with the record's numbers.
-use borrow.Author.Rules.{rules}
 use Rattle.kingletbed.proofs.ExportLaws.{fresh_export}
 use Rattle.kingletbed.proofs.kb_fresh.Goals as goal
 

@@ -1,5 +1,4 @@
 -- By kind.
-use borrow.Author.Rules.{rules}
 use Rattle.kingletbed.proofs.ExportLaws.{kind_rows, kind_morton}
 use Rattle.kingletbed.proofs.kind_number.Goals as goal
 

@@ -1,5 +1,4 @@
 -- The kind of the number.
-use borrow.Author.Rules.{rules}
 use Rattle.kingletbed.proofs.scan_of.Goals as goal
 
 pub returns : goal.returns
