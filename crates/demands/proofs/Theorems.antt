@@ -5,7 +5,7 @@
 use lib.ListN.{length}
 use Rattle.bed.specs.declared.Kind.TheVariants.{Rows}
 use Rattle.bed.specs.Bed.{Bed, fresh_bed}
-use Rattle.demands.specs.Calls.{answers, left, plain_step}
+use Rattle.demands.specs.Calls.{plain_step}
 use Rattle.demands.specs.Demands.{DemandTwo, DemandThree, NoneUnscanned}
 use Rattle.demands.proofs.Kept.{kept_left}
 use Rattle.demands.proofs.Scanning.{scan_kept, scan_counted}

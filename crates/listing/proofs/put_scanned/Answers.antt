@@ -7,7 +7,6 @@ use Rattle.decimal.proofs.LinesLaws.{pair_line_most}
 use Rattle.listing.specs.Listing.{bed_word, tiles_word, bed_line, stop_line}
 use Rattle.listing.proofs.LineLaws.{tile_line_most, tile_lines_most}
 use native.Mathlib.Omega.{arith}
-use borrow.Author.Rules.{rules}
 use Rattle.listing.proofs.put_scanned.Goals as goal
 
 pub returns : goal.returns

@@ -1,15 +1,9 @@
 -- `listing::put_tiles` meets its contract. The loop's invariant: the lines of the first i tiles are put, at most `triple_most` bytes for each. Assumes nothing.
 use Rattle.tile.specs.Tile.{tile_of}
-use Rattle.tile.specs.Slots.{tiles_in}
-use Rattle.text.specs.PutAt.{PutAt}
-use Rattle.listing.specs.Listing.{tile_lines}
-use Rattle.decimal.specs.Lines.{triple_most}
 use Rattle.listing.proofs.LineLaws.{tile_line_most, lines_none, lines_next}
 use mathlib.Core.Path.{◌≡◌}
-use Prim.Native.Nat.{◌+◌, ◌-◌, ◌*◌, ◌≤◌}
 use native.Mathlib.Omega.{arith}
 use lib.ListN.{get_or}
-use borrow.Author.Rules.{rules}
 use Rattle.listing.proofs.put_tiles.Goals as goal
 
 pub loop-i-init : goal.loop-i-init

@@ -1,6 +1,5 @@
 -- `listing::put_word` meets its contract: the three numbers taken from the word are its tile. Assumes nothing.
 use Rattle.listing.proofs.LineLaws.{line_put}
-use borrow.Author.Rules.{rules}
 use Rattle.listing.proofs.put_word.Goals as goal
 
 pub returns : goal.returns

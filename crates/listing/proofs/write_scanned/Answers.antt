@@ -1,7 +1,6 @@
 -- `listing::write_scanned` meets its contract: the first pass counts, the second puts. Assumes nothing.
 use Rattle.listing.proofs.LentLaws.{listed_in_few, listed_in_fits}
 use native.Mathlib.Omega.{arith}
-use borrow.Author.Rules.{rules}
 use Rattle.listing.proofs.write_scanned.Goals as goal
 
 pub returns-then-out-length : goal.returns-then-out-length

@@ -2,7 +2,6 @@
 use Rattle.listing.specs.Listing.{stop_line}
 use Rattle.listing.proofs.LentLaws.{listed_in_few, listed_in_fits}
 use native.Mathlib.Omega.{arith}
-use borrow.Author.Rules.{rules}
 use Rattle.listing.proofs.write_stop.Goals as goal
 
 pub returns-then-out-line : goal.returns-then-out-line

@@ -4,7 +4,6 @@ use mathlib.Core.Path.{sym}
 use lib.ListN.{take}
 use Rattle.listing_whole.proofs.Bounds.{whole_listed}
 use native.Mathlib.Omega.{arith}
-use borrow.Author.Rules.{rules}
 use Rattle.listing_whole.proofs.list_whole.Goals as goal
 
 pub returns : goal.returns
