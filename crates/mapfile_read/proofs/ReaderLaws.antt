@@ -5,7 +5,7 @@
 --     file_check_passed   a file whose number no item ahead of the roster gives is so: ..
 --     read_of_valid       .. one that the reader accepts, ..
 --     read_of_wrong       .. and one that it refuses by 43
---     file_check_behind   the number of a file whose head passes is that of its words, or else the roster's; fileCheck-roster, the roster's where the words pass
+--     file_check_behind   the number of a file whose head passes is that of its words, or else the roster's; file_check_roster, the roster's where the words pass
 --     read_of_accepted    what the reader then answers and leaves
 use mathlib.Core.Path.{◌≡◌, refl, sym, ◌∙◌}
 use mathlib.Core.List.{List, [], ◌∷◌, ◌++◌, map}
