@@ -1,7 +1,6 @@
 // The listings of inputs at the limits, one behind the other.
 #![tactic(auto)]
 
-
 // Writes the first bytes of `out` to standard output.
 fn write_first(out: &[u8], length: usize) {
     if length <= out.len() {
