@@ -57,8 +57,7 @@ roster_good-good-requires c =
     let p = c.requires in
     let e = sym c.entries_rise-number.ensures ∙ c.if-number-ne-ACCEPTED.false in
     let a = c.args in
-    let long = c.long-entries in
-    (
+    let long = c.long-entries in (
       p.0,
       p.1,
       p.2,
