@@ -9,3 +9,4 @@ pub mod LastPixel
 pub mod PlaceLaws
 pub mod ScannedBlocks
 pub mod BedLaws
+pub mod PlaceWords

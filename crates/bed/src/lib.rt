@@ -1,18 +1,39 @@
-// The scan record (document 01, "Scanning") with its limits.
+// The scan record (document 01, "Scanning") with its limits, points, and the place of a pixel in a scan.
 #![tactic(auto)]
 
-ghost use Rattle.std.specs.Prelude.{◌≡◌};
-ghost use Rattle.bed.specs.Places.{scan_of};
+ghost use Rattle.std.specs.Prelude.{◌≡◌, ◌^◌, ◌<◌, ◌≤◌};
+ghost use Rattle.tile.specs.Tile.{highest_order};
+ghost use Rattle.bed.specs.Places.{scan_of, place_of};
+
+// A pixel of a bed, or a place for one, by its column and its row.
+#[derive(Clone, Copy, Debug, PartialEq, Eq)]
+pub struct Point {
+    pub column: u32,
+    pub row: u32,
+}
 
 // By rows, or in Morton order.
-#[derive(Clone, Copy)]
+#[derive(Clone, Copy, Debug, PartialEq, Eq)]
 pub enum Kind {
     Rows,
     Morton,
 }
 
+impl Kind {
+    // How many places come before that of the pixel z, on a bed of an order.
+    pub fn place(self, order: u32, z: u32) -> u32
+        requires { (order ≤ highest_order) × (z < 4 ^ order) }
+        ensures { result ≡ place_of self order z }
+    {
+        match self {
+            Kind::Rows => (morton::row_of(z) << order) + morton::column_of(z),
+            Kind::Morton => z,
+        }
+    }
+}
+
 // A scan's kind and order, the pixels scanned and the tile count of its list.
-#[derive(Clone, Copy)]
+#[derive(Clone, Copy, Debug, PartialEq, Eq)]
 pub struct Scan {
     pub kind: Kind,
     pub order: u32,

@@ -2,82 +2,89 @@
 #![tactic(auto)]
 
 ghost use Rattle.std.specs.Prelude.{◌≡◌, ◌≤◌};
+ghost use Rattle.refusal.specs.Refused.{said};
 ghost use Rattle.tile.specs.Tile.{highest_order};
 ghost use Rattle.checks.specs.Asked.{order_check, point_check, coordinate_check, block_check, asker_check, given_check};
 
+use bed::{Point, Scan};
+use refusal::{Checked, Refusal};
+use tile::Block;
+
 // 1: the order is one of a bed. A call that is handed a map has it among the checks of the list.
-pub fn order(order: u32) -> u32
-    ensures { result ≡ order_check order }
+pub fn order(order: u32) -> Checked
+    ensures { said result ≡ order_check order }
 {
-    if bed::Scan::HIGHEST_ORDER < order {
-        return refusal::ORDER_TOO_LARGE;
+    if Scan::HIGHEST_ORDER < order {
+        return Err(Refusal::OrderTooLarge);
     }
-    refusal::ACCEPTED
+    Ok(())
 }
 
 // 31: the point asked lies on the bed.
-pub fn point(order: u32, column: u32, row: u32) -> u32
+pub fn point(order: u32, point: Point) -> Checked
     requires { order ≤ highest_order }
-    ensures { result ≡ point_check order column row }
+    ensures { said result ≡ point_check order point.column point.row }
 {
-    let side = 1u32 << order;
+    let Point { column, row } = point;
+    let side = tile::side(order);
     if side <= column {
-        return refusal::POINT_OUTSIDE;
+        return Err(Refusal::PointOutside);
     }
     if side <= row {
-        return refusal::POINT_OUTSIDE;
+        return Err(Refusal::PointOutside);
     }
-    refusal::ACCEPTED
+    Ok(())
 }
 
 // 32: the block asked is a quadrant of the bed.
-pub fn block(order: u32, corner: u32, size: u32) -> u32
+pub fn block(order: u32, block: Block) -> Checked
     requires { order ≤ highest_order }
-    ensures { result ≡ block_check order corner size }
+    ensures { said result ≡ block_check order block.corner block.size }
 {
+    let Block { corner, size } = block;
     if order < size {
-        return refusal::BLOCK_INVALID;
+        return Err(Refusal::BlockInvalid);
     }
     if tile::area(order) <= corner {
-        return refusal::BLOCK_INVALID;
+        return Err(Refusal::BlockInvalid);
     }
     if corner % tile::area(size) != 0 {
-        return refusal::BLOCK_INVALID;
+        return Err(Refusal::BlockInvalid);
     }
-    refusal::ACCEPTED
+    Ok(())
 }
 
 // 34: the asking account is somebody's.
-pub fn asker(asking: u8) -> u32
-    ensures { result ≡ asker_check asking }
+pub fn asker(asking: u8) -> Checked
+    ensures { said result ≡ asker_check asking }
 {
     if asking == 0 {
-        return refusal::ASKER_INVALID;
+        return Err(Refusal::AskerInvalid);
     }
-    if bed::Scan::HIGHEST_ACCOUNT < asking {
-        return refusal::ASKER_INVALID;
+    if Scan::HIGHEST_ACCOUNT < asking {
+        return Err(Refusal::AskerInvalid);
     }
-    refusal::ACCEPTED
+    Ok(())
 }
 
 // 24: the account given is nobody's or somebody's.
-pub fn given(account: u8) -> u32
-    ensures { result ≡ given_check account }
+pub fn given(account: u8) -> Checked
+    ensures { said result ≡ given_check account }
 {
-    if bed::Scan::HIGHEST_ACCOUNT < account {
-        return refusal::ACCOUNT_TOO_LARGE;
+    if Scan::HIGHEST_ACCOUNT < account {
+        return Err(Refusal::AccountTooLarge);
     }
-    refusal::ACCEPTED
+    Ok(())
 }
 
 // 31: a column or a row, asked alone, is one of the bed's.
-pub fn coordinate(order: u32, pixel: u32) -> u32
+pub fn coordinate(order: u32, pixel: u32) -> Checked
     requires { order ≤ highest_order }
-    ensures { result ≡ coordinate_check order pixel }
+    ensures { said result ≡ coordinate_check order pixel }
 {
-    let side = 1u32 << order;
+    let side = tile::side(order);
     if side <= pixel {
-        return refusal::POINT_OUTSIDE;
+        return Err(Refusal::PointOutside);
     }
-    refusal::ACCEPTED
+    Ok(())
 }

@@ -15,7 +15,8 @@ use Rattle.basics.proofs.Tests.{test_leb}
 use Rattle.refusal.specs.Refusal.{accepted, account_too_large, slots_exceeded, block_invalid, unscanned}
 use Rattle.refusal.specs.Checks.{must, or_else, After}
 use Rattle.refusal.proofs.CheckLaws.{must_inv, else_on, else_off, else_inv, else_else, else_must, unless_on, unless_off}
-use Rattle.tile.specs.Tile.{Tile, highest_account}
+use Rattle.tile.specs.declared.Tile.{Tile}
+use Rattle.tile.specs.Tile.{highest_account}
 use Rattle.tile.specs.Slots.{tiles_in, filled}
 use Rattle.quadtree.specs.Raster.{account_at}
 use Rattle.quadtree.specs.Quadtree.{quadtree}

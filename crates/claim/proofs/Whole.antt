@@ -16,7 +16,8 @@ use Rattle.basics.proofs.Tests.{test_leb}
 use Rattle.refusal.specs.Refusal.{accepted, slots_exceeded}
 use Rattle.refusal.specs.Checks.{After}
 use Rattle.refusal.proofs.CheckLaws.{must_on, must_off}
-use Rattle.tile.specs.Tile.{Tile, tile_of, word_of, highest_order}
+use Rattle.tile.specs.declared.Tile.{Tile}
+use Rattle.tile.specs.Tile.{tile_of, word_of, highest_order}
 use Rattle.tile.specs.Slots.{tiles_in, filled}
 use Rattle.tile.proofs.SlotsLaws.{words_tiles, length_tiles_in}
 use Rattle.quadtree.specs.Raster.{account_at}

@@ -10,7 +10,8 @@ use Prim.Native.Nat.{ℕ, ◌+◌, ◌-◌, ◌*◌, ◌/◌, ◌%◌, ◌^◌, 
 use native.Mathlib.Omega.{arith}
 use native.Mathlib.Numerals.{add-one}
 use lib.ListN.{length}
-use Rattle.tile.specs.Tile.{Tile, highest_order}
+use Rattle.tile.specs.declared.Tile.{Tile}
+use Rattle.tile.specs.Tile.{highest_order}
 use Rattle.quadtree.proofs.Alignment.{area_mono, area_pos, size_le}
 use Rattle.quadtree.proofs.Tiling.{tiling_le}
 use Rattle.claim_split.proofs.Place.{place, between_merge_at, apart_at}

@@ -7,7 +7,8 @@
 --                                   from lo up to hi
 --     Merges g n ts a lo hi c k     and its siblings do not all stand beside it
 use Rattle.std.specs.Prelude.{◌≡◌, List, ℕ, ◌+◌, ◌-◌, ◌*◌, ◌/◌, ◌%◌, ◌^◌, ◌≤◌, length, take, drop}
-use Rattle.tile.specs.Tile.{Tile, tile, highest_order}
+use Rattle.tile.specs.declared.Tile.{Tile}
+use Rattle.tile.specs.Tile.{tile, highest_order}
 use Rattle.quadtree.specs.Raster.{Aligned}
 use Rattle.quadtree.specs.Tiling.{equal_tiles, Between, Apart}
 

@@ -12,7 +12,8 @@ use native.Mathlib.Decide.{dec_lt, dec_le}
 use native.Mathlib.Numerals.{add-one}
 use lib.ListN.{length, take, drop, take-append-drop}
 use lib.Seq.{drop-drop}
-use Rattle.tile.specs.Tile.{Tile, stop, highest_account}
+use Rattle.tile.specs.declared.Tile.{Tile}
+use Rattle.tile.specs.Tile.{stop, highest_account}
 use Rattle.quadtree.specs.Raster.{Uniform, account_at}
 use Rattle.quadtree.specs.Quadtree.{blocks, quadtree}
 use Rattle.quadtree.proofs.Alignment.{aligned_down, aligned_next, aligned_gap, aligned_room, area_pos, size_le}

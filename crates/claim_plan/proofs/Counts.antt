@@ -9,7 +9,8 @@ use Prim.Native.Nat.{ℕ, zero, suc, ◌+◌, ◌-◌, ◌*◌, ◌≤◌}
 use native.Mathlib.Omega.{arith}
 use lib.ListN.{length, take, drop, length-append, length-drop}
 use lib.Seq.{length-take-le}
-use Rattle.tile.specs.Tile.{Tile, highest_order}
+use Rattle.tile.specs.declared.Tile.{Tile}
+use Rattle.tile.specs.Tile.{highest_order}
 use Rattle.quadtree.specs.Raster.{account_at}
 use Rattle.quadtree.specs.Quadtree.{single, blocks, quadtree}
 use Rattle.claim_split.proofs.Split.{split_length}

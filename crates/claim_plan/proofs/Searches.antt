@@ -7,7 +7,8 @@ use Prim.Native.Nat.{ℕ, zero, suc, ◌+◌, ◌-◌, ◌^◌, ◌≤◌, ◌<�
 use native.Mathlib.Omega.{arith}
 use native.Mathlib.Decide.{dec_lt, dec_le}
 use lib.ListN.{length, take, drop, get_or, length-map, get_or-map}
-use Rattle.tile.specs.Tile.{Tile, stop, tile_of}
+use Rattle.tile.specs.declared.Tile.{Tile}
+use Rattle.tile.specs.Tile.{stop, tile_of}
 use Rattle.tile.proofs.TileLaws.{tile_of_account}
 use Rattle.quadtree.specs.Raster.{Aligned, account_at}
 use Rattle.quadtree.proofs.Alignment.{aligned_down, aligned_next, aligned_gap}

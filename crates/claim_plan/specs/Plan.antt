@@ -7,7 +7,8 @@
 --     inner a                       how many tiles a block of the account a has: one, and none for nobody's
 --     Plans n ts c k a r            r is such a change with its two counts
 use Rattle.std.specs.Prelude.{◌≡◌, List, ◌++◌, ℕ, zero, suc, ◌+◌, ◌^◌, ◌≤◌, ◌<◌, length, take, drop, get_or}
-use Rattle.tile.specs.Tile.{Tile, tile_of, highest_order, highest_account}
+use Rattle.tile.specs.declared.Tile.{Tile}
+use Rattle.tile.specs.Tile.{tile_of, highest_order, highest_account}
 use Rattle.quadtree.specs.Raster.{Aligned, account_at}
 use Rattle.quadtree.specs.Quadtree.{blocks, quadtree}
 use Rattle.quadtree.specs.Valid.{Valid}

@@ -11,7 +11,8 @@ use Prim.Native.Nat.{ℕ, zero, suc, ◌≤◌, ◌<◌}
 use native.Mathlib.Omega.{arith}
 use lib.ListN.{length, take, drop, get_or}
 use lib.Seq.{split_at}
-use Rattle.tile.specs.Tile.{Tile, stop}
+use Rattle.tile.specs.declared.Tile.{Tile}
+use Rattle.tile.specs.Tile.{stop}
 use Rattle.quadtree.proofs.Alignment.{area_pos}
 use Rattle.quadtree.proofs.Tiling.{On, Tiling, none, next, Placed, first_placed, tiling_split}
 

@@ -12,7 +12,8 @@ use native.Mathlib.Omega.{arith}
 use native.Mathlib.Nat.{mul-le-mul_right, mul-div_cancel, add-mul, mul_assoc, mul_left_comm}
 use lib.ListN.{length, take, drop, length-append, length-drop, take-append-drop}
 use lib.Seq.{take-add, drop-drop, drop_at, take_at, length-take-le}
-use Rattle.tile.specs.Tile.{Tile, tile}
+use Rattle.tile.specs.declared.Tile.{Tile}
+use Rattle.tile.specs.Tile.{tile}
 use Rattle.quadtree.specs.Raster.{Aligned}
 use Rattle.quadtree.proofs.Alignment.{aligned_gap, area_pos, cmp, below, same, above}
 use Rattle.quadtree.specs.Tiling.{equal_tiles, Between, Apart}

@@ -3,7 +3,7 @@
 --                           at d around it
 --     pieces k c a v l d    the tiles of such a block, l levels above the inner one
 use Rattle.std.specs.Prelude.{◌≡◌, List, ◌++◌, ℕ, zero, suc, ◌+◌, ◌-◌, ◌*◌, ◌/◌, ◌^◌, ◌≤◌, ◌<◌}
-use Rattle.tile.specs.Tile.{Tile}
+use Rattle.tile.specs.declared.Tile.{Tile}
 use Rattle.quadtree.specs.Raster.{Aligned, Uniform}
 use Rattle.quadtree.specs.Quadtree.{single}
 use Rattle.quadtree.specs.Tiling.{equal_tiles}

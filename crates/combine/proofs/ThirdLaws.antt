@@ -12,7 +12,8 @@ use Rattle.basics.proofs.Tests.{test_leb}
 use Rattle.refusal.specs.Refusal.{accepted}
 use Rattle.refusal.specs.Checks.{After}
 use Rattle.refusal.proofs.CheckLaws.{must_inv, else_inv, unless_on, unless_number}
-use Rattle.tile.specs.Tile.{Tile, word_of, highest_order, highest_account}
+use Rattle.tile.specs.declared.Tile.{Tile}
+use Rattle.tile.specs.Tile.{word_of, highest_order, highest_account}
 use Rattle.tile.specs.Slots.{tiles_in, filled}
 use Rattle.tile.proofs.TileLaws.{Packable}
 use Rattle.tile.proofs.SlotsLaws.{filled_length, tiles_in_filled}

@@ -9,7 +9,7 @@
 use Rattle.std.specs.Prelude.{List, ℕ, leb, eqb, length}
 use Rattle.refusal.specs.Refusal.{accepted, orders_differ, slots_exceeded}
 use Rattle.refusal.specs.Checks.{must, or_else, unless, After}
-use Rattle.tile.specs.Tile.{Tile}
+use Rattle.tile.specs.declared.Tile.{Tile}
 use Rattle.tile.specs.Slots.{filled}
 use Rattle.quadtree.specs.Quadtree.{quadtree}
 use Rattle.list_check.specs.ListCheck.{list_check}

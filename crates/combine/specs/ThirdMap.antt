@@ -8,7 +8,7 @@
 use Rattle.std.specs.Prelude.{◌≡◌, List, ℕ, ◌-◌, ◌^◌, ◌≤◌, ◌<◌, length, drop, replicate}
 use Rattle.refusal.specs.Refusal.{accepted}
 use Rattle.refusal.specs.Checks.{After}
-use Rattle.tile.specs.Tile.{Tile}
+use Rattle.tile.specs.declared.Tile.{Tile}
 use Rattle.tile.specs.Slots.{tiles_in}
 use Rattle.quadtree.specs.Raster.{account_at, Shows}
 use Rattle.quadtree.specs.Quadtree.{LinearQuadtree}

@@ -7,7 +7,8 @@
 --     StepOf                 such a stretch of the raster f that two lists make, and their cursors at its end
 --     RunOf f .. z a r       from z on f has a whole run of the account a; r has its end and the next step there
 use Rattle.std.specs.Prelude.{List, ℕ, ◌≤◌, ◌<◌, length, drop}
-use Rattle.tile.specs.Tile.{Tile, highest_account}
+use Rattle.tile.specs.declared.Tile.{Tile}
+use Rattle.tile.specs.Tile.{highest_account}
 use Rattle.tile.specs.Slots.{tiles_in}
 use Rattle.quadtree.specs.Raster.{Uniform, account_at}
 use Rattle.quadtree.specs.Tiling.{Tiling}

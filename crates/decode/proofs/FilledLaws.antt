@@ -17,7 +17,8 @@ use lib.Seq.{get_or-set_same, get_or-set_other}
 use Rattle.morton.specs.Morton.{column, row, Square, side_bits}
 use Rattle.morton.proofs.MortonLaws.{column_lt, column_wide, row_wide}
 use Rattle.morton.proofs.Squares.{block_square, square_block, column_room, row_room}
-use Rattle.tile.specs.Tile.{Tile, highest_order}
+use Rattle.tile.specs.declared.Tile.{Tile}
+use Rattle.tile.specs.Tile.{highest_order}
 use Rattle.quadtree.specs.Raster.{Covers, Quadrant}
 use Rattle.quadtree.proofs.Alignment.{cmp, below, same, above}
 use Rattle.bed.specs.Places.{place_of}

@@ -14,7 +14,8 @@ use native.Mathlib.Decide.{dec_lt}
 use native.Mathlib.Numerals.{add-one}
 use lib.ListN.{length, take, drop, get_or}
 use lib.Seq.{drop-cons, drop-length, length-take-le, get_or-take}
-use Rattle.tile.specs.Tile.{Tile, stop, tile_of}
+use Rattle.tile.specs.declared.Tile.{Tile}
+use Rattle.tile.specs.Tile.{stop, tile_of}
 use Rattle.quadtree.specs.Raster.{account_at, Quadrant}
 use Rattle.quadtree.specs.Valid.{Valid}
 use Rattle.quadtree.proofs.Alignment.{area_pos}

@@ -5,7 +5,7 @@
 --     TileFilled n t xs ys                                  on the tile t of a raster of order n, by rows, with the
 --                          account of t
 use Rattle.std.specs.Prelude.{◌≡◌, List, ℕ, ◌+◌, ◌*◌, ◌^◌, ◌≤◌, ◌<◌, length, get_or}
-use Rattle.tile.specs.Tile.{Tile}
+use Rattle.tile.specs.declared.Tile.{Tile}
 use Rattle.quadtree.specs.Raster.{Covers}
 use Rattle.bed.specs.declared.Kind.TheVariants.{Rows}
 use Rattle.bed.specs.Places.{place_of}

@@ -17,7 +17,8 @@ use Rattle.basics.proofs.Tests.{test_leb}
 use Rattle.refusal.specs.Refusal.{accepted, order_too_large, scanned_too_large, tile_unscanned}
 use Rattle.refusal.specs.Checks.{must, or_else, unless}
 use Rattle.refusal.proofs.CheckLaws.{must_on, must_off, else_on, else_must}
-use Rattle.tile.specs.Tile.{Tile, tile_of, highest_order}
+use Rattle.tile.specs.declared.Tile.{Tile}
+use Rattle.tile.specs.Tile.{tile_of, highest_order}
 use Rattle.tile.specs.Slots.{filled}
 use Rattle.tile.proofs.SlotsLaws.{words_tiles}
 use Rattle.quadtree.specs.Raster.{account_at}

@@ -15,7 +15,8 @@ use Rattle.basics.proofs.Tests.{test_eqb}
 use Rattle.refusal.specs.Refusal.{accepted, raster_length}
 use Rattle.refusal.specs.Checks.{After}
 use Rattle.refusal.proofs.CheckLaws.{must_on, else_on, unless_on}
-use Rattle.tile.specs.Tile.{Tile, word_of, highest_account}
+use Rattle.tile.specs.declared.Tile.{Tile}
+use Rattle.tile.specs.Tile.{word_of, highest_account}
 use Rattle.tile.specs.Slots.{filled}
 use Rattle.tile.proofs.TileLaws.{Packable}
 use Rattle.tile.proofs.SlotsLaws.{filled_length, tiles_in_filled}

@@ -18,7 +18,8 @@ use Rattle.basics.proofs.Tests.{test_leb}
 use Rattle.refusal.specs.Refusal.{accepted, order_too_large, tile_unscanned}
 use Rattle.refusal.specs.Checks.{must, unless}
 use Rattle.refusal.proofs.CheckLaws.{must_on, must_not, else_not}
-use Rattle.tile.specs.Tile.{Tile, tile_of, highest_order}
+use Rattle.tile.specs.declared.Tile.{Tile}
+use Rattle.tile.specs.Tile.{tile_of, highest_order}
 use Rattle.list_check.specs.ListCheck.{sound_check, word_check}
 use Rattle.bed.specs.declared.Kind.{Kind}
 use Rattle.bed.specs.Places.{place_of, pixel_at}

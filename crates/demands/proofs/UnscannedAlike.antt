@@ -11,7 +11,7 @@ use native.Mathlib.Decide.{dec_le}
 use native.Mathlib.Omega.{arith}
 use Rattle.basics.proofs.Tests.{Test, holds, fails, test_leb, test_and, test_not, test_alike}
 use Rattle.basics.proofs.ChoiceLaws.{Some, test_some}
-use Rattle.tile.specs.Tile.{Tile}
+use Rattle.tile.specs.declared.Tile.{Tile}
 use Rattle.quadtree.specs.Raster.{◌∈◌}
 use Rattle.quadtree.specs.Quadtree.{quadtree}
 use Rattle.quadtree.proofs.Tiling.{placed}

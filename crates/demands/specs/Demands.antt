@@ -7,7 +7,8 @@
 use Rattle.std.specs.Prelude.{◌≡◌, ◌↔◌, ℕ, ◌+◌, ◌-◌, ◌^◌, ◌≤◌, ◌<◌, length, take, drop, get_or, replicate}
 use mathlib.Core.List.{List, [], ◌∷◌, ◌++◌, Memᴰ}
 use Rattle.refusal.specs.Refusal.{accepted, tile_unscanned}
-use Rattle.tile.specs.Tile.{Tile, highest_order}
+use Rattle.tile.specs.declared.Tile.{Tile}
+use Rattle.tile.specs.Tile.{highest_order}
 use Rattle.tile.specs.Slots.{tiles_in}
 use Rattle.quadtree.specs.Raster.{Shows}
 use Rattle.quadtree.specs.Quadtree.{LinearQuadtree}

@@ -7,7 +7,7 @@ use Prim.Native.Nat.{ℕ, ◌^◌, ◌<◌}
 use native.Mathlib.Omega.{arith}
 use lib.ListN.{length}
 use Rattle.refusal.specs.Refusal.{accepted}
-use Rattle.tile.specs.Tile.{Tile}
+use Rattle.tile.specs.declared.Tile.{Tile}
 use Rattle.quadtree.specs.Raster.{account_at}
 use Rattle.quadtree.specs.Quadtree.{LinearQuadtree}
 use Rattle.quadtree.proofs.ValidLaws.{quadtree_shown}

@@ -13,7 +13,8 @@ use lib.ListN.{length, take}
 use Rattle.basics.proofs.Tests.{test_leb, test_not}
 use Rattle.refusal.specs.Refusal.{accepted, order_too_large, count_above_slots, siblings_unmerged}
 use Rattle.refusal.proofs.CheckLaws.{must_pass, must_inv, else_on, else_inv}
-use Rattle.tile.specs.Tile.{Tile, tile_of, highest_order, highest_account}
+use Rattle.tile.specs.declared.Tile.{Tile}
+use Rattle.tile.specs.Tile.{tile_of, highest_order, highest_account}
 use Rattle.tile.specs.Slots.{tiles_in, filled}
 use Rattle.tile.proofs.SlotsLaws.{filled_length, tiles_in_filled}
 use Rattle.quadtree.specs.Raster.{◌∈◌}

@@ -10,7 +10,8 @@ use native.Mathlib.Nat.{div-add-mod', mod-lt}
 use native.Mathlib.Omega.{arith}
 use lib.Bits.{bit_or, bit_xor}
 use Rattle.basics.proofs.Tests.{Test, test_alike}
-use Rattle.tile.specs.Tile.{Tile, stop, tile_of}
+use Rattle.tile.specs.declared.Tile.{Tile}
+use Rattle.tile.specs.Tile.{stop, tile_of}
 use Rattle.tile.proofs.WordBits.{Within, Alike, within_or, within_xor}
 use Rattle.quadtree.specs.Raster.{Aligned}
 use Rattle.quadtree.specs.Valid.{Sound}

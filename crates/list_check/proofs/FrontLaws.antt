@@ -16,7 +16,8 @@ use lib.Seq.{drop-cons, drop-length, length-take-le, get_or-take}
 use Rattle.refusal.specs.Refusal.{accepted}
 use Rattle.refusal.specs.Checks.{or_else}
 use Rattle.refusal.proofs.CheckLaws.{else_on, else_inv, else_alike}
-use Rattle.tile.specs.Tile.{Tile, stop, tile_of, highest_order}
+use Rattle.tile.specs.declared.Tile.{Tile}
+use Rattle.tile.specs.Tile.{stop, tile_of, highest_order}
 use Rattle.quadtree.proofs.Alignment.{area_pos, size_le, aligned_zero, aligned_gap}
 use Rattle.quadtree.proofs.Siblings.{siblings_quarters}
 use Rattle.list_flat.specs.Clear.{ClearAt}

@@ -6,7 +6,8 @@ use mathlib.Core.List.{List, [], ◌∷◌}
 use Prim.Native.Nat.{suc, ◌+◌}
 use native.Mathlib.Numerals.{add-one}
 use Rattle.basics.proofs.Tests.{Test, fails, test_eqb, test_and, test_map}
-use Rattle.tile.specs.Tile.{Tile, stop}
+use Rattle.tile.specs.declared.Tile.{Tile}
+use Rattle.tile.specs.Tile.{stop}
 use Rattle.quadtree.specs.Raster.{Aligned, aligned}
 use Rattle.quadtree.proofs.Alignment.{test_aligned}
 use Rattle.quadtree.proofs.Siblings.{Follows, Siblings}

@@ -19,7 +19,8 @@ use Rattle.basics.proofs.Tests.{Test, test_leb, test_and}
 use Rattle.refusal.specs.Refusal.{accepted, high_bits_set, size_above_order, corner_invalid, account_zero, tiles_overlap, siblings_unmerged}
 use Rattle.refusal.specs.Checks.{must, or_else}
 use Rattle.refusal.proofs.CheckLaws.{must_on, must_off, must_pass, must_inv, else_on, else_off, else_else, else_must}
-use Rattle.tile.specs.Tile.{Tile, stop, tile_of, word_limit, highest_order}
+use Rattle.tile.specs.declared.Tile.{Tile}
+use Rattle.tile.specs.Tile.{stop, tile_of, word_limit, highest_order}
 use Rattle.tile.proofs.TileLaws.{tile_of_corner_low}
 use Rattle.quadtree.specs.Raster.{Aligned, aligned}
 use Rattle.quadtree.specs.Valid.{Sound}

@@ -11,7 +11,8 @@
 use Rattle.std.specs.Prelude.{Bool, false, ◌&&◌, not, List, [], ◌∷◌, ℕ, ◌+◌, ◌^◌, leb, ltb, eqb, length, take}
 use Rattle.refusal.specs.Refusal.{accepted, order_too_large, count_above_slots, high_bits_set, size_above_order, corner_invalid, account_zero, tiles_overlap, siblings_unmerged}
 use Rattle.refusal.specs.Checks.{must, or_else}
-use Rattle.tile.specs.Tile.{Tile, stop, tile_of, word_limit, highest_order}
+use Rattle.tile.specs.declared.Tile.{Tile}
+use Rattle.tile.specs.Tile.{stop, tile_of, word_limit, highest_order}
 use Rattle.quadtree.specs.Raster.{aligned}
 
 unfoldable pub follows : Tile → Tile → Bool

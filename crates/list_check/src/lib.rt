@@ -6,7 +6,8 @@
 ghost use Rattle.std.specs.Prelude.{◌≡◌, List, [], ℕ, ◌≤◌, length, take};
 ghost use Rattle.basics.specs.Test.{Test};
 ghost use Rattle.refusal.specs.Refusal.{accepted};
-ghost use Rattle.tile.specs.Tile.{Tile, tile_of, highest_order};
+ghost use Rattle.tile.specs.declared.Tile.{Tile};
+ghost use Rattle.tile.specs.Tile.{tile_of, highest_order};
 ghost use Rattle.quadtree.specs.Valid.{Sound};
 ghost use Rattle.list_check.specs.ListCheck.{last_of_four, ended, sound_check, words_check, list_check};
 ghost use Rattle.list_check.specs.Pass.{Knows, Judges, Going, seen_at, FrontPasses, head, Begun};

@@ -10,7 +10,8 @@ use native.Mathlib.Omega.{arith}
 use native.Mathlib.Nat.{add-zero}
 use lib.ListN.{length, take, drop, set, replicate, length-append, length-map}
 use lib.Seq.{sets, sets-eq, length-sets, take_at}
-use Rattle.tile.specs.Tile.{Tile, word_of, highest_order}
+use Rattle.tile.specs.declared.Tile.{Tile}
+use Rattle.tile.specs.Tile.{word_of, highest_order}
 use Rattle.tile.specs.Slots.{filled}
 use Rattle.quadtree.specs.Quadtree.{quadtree}
 use Rattle.quadtree.proofs.Alignment.{area_mono}

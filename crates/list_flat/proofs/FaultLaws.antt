@@ -9,7 +9,8 @@ use Prim.Native.Nat.{ℕ, suc, ◌+◌, ◌*◌, ◌/◌, ◌%◌, ◌^◌, ◌�
 use native.Mathlib.Nat.{div-add-mod', div-eq_of_lt-le, mul-le-mul_right}
 use native.Mathlib.Omega.{arith}
 use lib.Bits.{bit_or, bit_xor}
-use Rattle.tile.specs.Tile.{Tile, tile_of}
+use Rattle.tile.specs.declared.Tile.{Tile}
+use Rattle.tile.specs.Tile.{tile_of}
 use Rattle.tile.proofs.WordBits.{Within, xor_within, or_within}
 use Rattle.quadtree.specs.Raster.{Aligned}
 use Rattle.quadtree.specs.Valid.{quarter}

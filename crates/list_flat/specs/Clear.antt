@@ -2,7 +2,8 @@
 --     Clear t u v w       t is aligned and somebody's, u does not start before it ends, and the four are not siblings
 --     ClearAt n slots j   so the four tiles of the slots j to j + 3, of which the first starts on the bed
 use Rattle.std.specs.Prelude.{◌≡◌, List, ℕ, suc, ◌+◌, ◌^◌, ◌≤◌, ◌<◌, get_or}
-use Rattle.tile.specs.Tile.{Tile, stop, tile_of}
+use Rattle.tile.specs.declared.Tile.{Tile}
+use Rattle.tile.specs.Tile.{stop, tile_of}
 use Rattle.quadtree.specs.Raster.{Aligned}
 use Rattle.quadtree.specs.Valid.{quarter}
 

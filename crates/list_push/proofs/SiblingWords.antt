@@ -10,7 +10,8 @@ use lib.Dec.{eqb}
 use lib.ListN.{length, take, get_or}
 use lib.Seq.{take-suc}
 use Rattle.basics.proofs.Tests.{Test, holds, fails, test_eqb}
-use Rattle.tile.specs.Tile.{Tile, tile, tile_of, word_of}
+use Rattle.tile.specs.declared.Tile.{Tile}
+use Rattle.tile.specs.Tile.{tile, tile_of, word_of}
 use Rattle.tile.specs.Slots.{tiles}
 use Rattle.tile.proofs.TileLaws.{tile_word, word_tile}
 use Rattle.quadtree.specs.Tiling.{equal_tiles}

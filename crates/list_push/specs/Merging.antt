@@ -7,7 +7,8 @@
 --                          from m.at on into the tile of size m .size, and what is left does not end with this tile's
 --                          siblings
 use Rattle.std.specs.Prelude.{◌≡◌, Bool, true, false, List, ◌++◌, ℕ, suc, ◌+◌, ◌-◌, ◌*◌, ◌^◌, ◌≤◌, length, take}
-use Rattle.tile.specs.Tile.{Tile, tile, stop, highest_order, highest_account}
+use Rattle.tile.specs.declared.Tile.{Tile}
+use Rattle.tile.specs.Tile.{tile, stop, highest_order, highest_account}
 use Rattle.tile.specs.Slots.{tiles}
 use Rattle.quadtree.specs.Raster.{Aligned}
 use Rattle.quadtree.specs.Tiling.{equal_tiles, Between}

@@ -17,7 +17,8 @@ use lib.ListN.{length, get_or}
 use Rattle.basics.specs.Choice.{if}
 use Rattle.basics.proofs.Tests.{Test, holds, fails, test_leb}
 use Rattle.basics.proofs.ChoiceLaws.{if_yes, if_no}
-use Rattle.tile.specs.Tile.{Tile, tile_of}
+use Rattle.tile.specs.declared.Tile.{Tile}
+use Rattle.tile.specs.Tile.{tile_of}
 use Rattle.tile.specs.Slots.{tiles_in}
 use Rattle.tile.proofs.SlotsLaws.{length_tiles_in}
 use Rattle.quadtree.specs.Raster.{◌∈◌}

@@ -3,7 +3,7 @@
 --     is_ahead c u    the tile u has a smaller corner than c
 use Rattle.std.specs.Prelude.{Bool, List, [], ◌∷◌, ℕ, ◌+◌, ltb}
 use Rattle.basics.specs.Choice.{if}
-use Rattle.tile.specs.Tile.{Tile}
+use Rattle.tile.specs.declared.Tile.{Tile}
 
 unfoldable pub counted : (Tile → Bool) → List Tile → ℕ
 counted g [] = 0

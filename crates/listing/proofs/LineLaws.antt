@@ -11,7 +11,8 @@ use native.Mathlib.Nat.{mul-suc}
 use native.Mathlib.Omega.{arith}
 use native.Mathlib.Numerals.{add-one}
 use lib.ListN.{length, take, get_or, length-append}
-use Rattle.tile.specs.Tile.{Tile, tile_of}
+use Rattle.tile.specs.declared.Tile.{Tile}
+use Rattle.tile.specs.Tile.{tile_of}
 use Rattle.tile.specs.Slots.{tiles_in}
 use Rattle.text.specs.PutAt.{PutAt}
 use Rattle.text.proofs.PutAtLaws.{put_at_none, put_at_then}

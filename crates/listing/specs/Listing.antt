@@ -14,7 +14,7 @@ use Rattle.basics.specs.Choice.{if}
 use Rattle.refusal.specs.Refusal.{accepted, order_too_large, bytes_too_few, file_cut_short}
 use Rattle.refusal.specs.Checks.{must, unless, After}
 use Rattle.decimal.specs.Lines.{pair_line, triple_line}
-use Rattle.tile.specs.Tile.{Tile}
+use Rattle.tile.specs.declared.Tile.{Tile}
 use Rattle.tile.specs.Slots.{tiles_in}
 use Rattle.bed.specs.declared.Kind.TheVariants.{Rows}
 use Rattle.scan.specs.declared.Fed.{Fed}

@@ -13,7 +13,8 @@ use Rattle.basics.proofs.ChoiceLaws.{if_yes, if_no, by_if}
 use Rattle.refusal.specs.Refusal.{accepted, order_too_large, file_cut_short}
 use Rattle.refusal.specs.Checks.{After}
 use Rattle.refusal.proofs.CheckLaws.{must_on, unless_on, by_unless, unless_alike}
-use Rattle.tile.specs.Tile.{Tile, highest_order, highest_account}
+use Rattle.tile.specs.declared.Tile.{Tile}
+use Rattle.tile.specs.Tile.{highest_order, highest_account}
 use Rattle.tile.specs.Slots.{tiles_in, filled}
 use Rattle.tile.proofs.SlotsLaws.{tiles_in_filled}
 use Rattle.quadtree.specs.Raster.{account_at, ◌∈◌}

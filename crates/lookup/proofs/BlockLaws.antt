@@ -17,7 +17,8 @@ use Prim.Native.Nat.{ℕ, zero, suc, ◌+◌, ◌^◌, ◌≤◌, ◌<◌}
 use native.Mathlib.Decide.{dec_lt}
 use native.Mathlib.Omega.{arith}
 use Rattle.basics.proofs.Tests.{Test, by_test, test_and}
-use Rattle.tile.specs.Tile.{Tile, corner_at}
+use Rattle.tile.specs.declared.Tile.{Tile}
+use Rattle.tile.specs.Tile.{corner_at}
 use Rattle.quadtree.specs.Raster.{Covers, Uniform, account_at, ◌∈◌}
 use Rattle.quadtree.specs.Valid.{Valid}
 use Rattle.quadtree.proofs.Alignment.{Cmp, cmp, below, same, above, area_pos, aligned_room, aligned_nest, corner_aligned, corner_has, corner_only}

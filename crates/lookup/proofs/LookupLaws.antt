@@ -12,7 +12,7 @@ use Rattle.refusal.specs.Refusal.{accepted}
 use Rattle.refusal.proofs.CheckLaws.{else_on, else_inv, unless_on, unless_off, unless_number}
 use Rattle.morton.specs.Morton.{morton, side_bits}
 use Rattle.morton.proofs.MortonLaws.{morton_lt, morton_wide}
-use Rattle.tile.specs.Tile.{Tile}
+use Rattle.tile.specs.declared.Tile.{Tile}
 use Rattle.tile.specs.Slots.{tiles_in}
 use Rattle.bed.specs.declared.Scan.{Scan}
 use Rattle.bed.specs.Places.{place_of}

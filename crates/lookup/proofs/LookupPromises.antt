@@ -17,7 +17,8 @@ use Rattle.refusal.proofs.CheckLaws.{else_inv, by_unless}
 use Rattle.morton.specs.Morton.{morton, Square}
 use Rattle.morton.proofs.MortonLaws.{morton_lt}
 use Rattle.morton.proofs.Squares.{square_bed, number_square, square_number}
-use Rattle.tile.specs.Tile.{Tile, highest_account}
+use Rattle.tile.specs.declared.Tile.{Tile}
+use Rattle.tile.specs.Tile.{highest_account}
 use Rattle.tile.specs.Slots.{tiles_in, filled}
 use Rattle.tile.proofs.SlotsLaws.{tiles_in_filled}
 use Rattle.quadtree.specs.Raster.{Aligned, Uniform, account_at, ◌∈◌}

@@ -20,7 +20,8 @@ use lib.ListN.{length, get_or}
 use Rattle.basics.specs.Choice.{if}
 use Rattle.basics.proofs.Tests.{test_leb}
 use Rattle.basics.proofs.ChoiceLaws.{if_yes, if_no}
-use Rattle.tile.specs.Tile.{Tile, tile, stop, corner_at, tile_of}
+use Rattle.tile.specs.declared.Tile.{Tile}
+use Rattle.tile.specs.Tile.{tile, stop, corner_at, tile_of}
 use Rattle.tile.specs.Slots.{tiles_in}
 use Rattle.tile.proofs.SlotTiles.{tiles_in_at, tiles_in_in}
 use Rattle.quadtree.specs.Raster.{Aligned, Covers, Uniform, account_at}

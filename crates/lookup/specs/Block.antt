@@ -11,7 +11,8 @@
 -- That lookup answers what `Names` says, whoever has the pixel, and that there is one such block, is the promise
 -- `LookupNames`.
 use Rattle.std.specs.Prelude.{Bool, true, false, ◌&&◌, not, List, [], ◌∷◌, ℕ, zero, suc, ◌+◌, ◌^◌, ◌≤◌, ◌<◌}
-use Rattle.tile.specs.Tile.{Tile, tile, stop, corner_at}
+use Rattle.tile.specs.declared.Tile.{Tile}
+use Rattle.tile.specs.Tile.{tile, stop, corner_at}
 use Rattle.quadtree.specs.Raster.{Aligned, Covers, covers, Uniform, uniform}
 use Rattle.bed.specs.Places.{place_of, unscanned_in}
 use Rattle.bed.specs.Bed.{Bed}

@@ -7,7 +7,7 @@ use Rattle.std.specs.Prelude.{List, ℕ}
 use Rattle.refusal.specs.Refusal.{accepted}
 use Rattle.refusal.specs.Checks.{or_else, unless}
 use Rattle.morton.specs.Morton.{morton}
-use Rattle.tile.specs.Tile.{Tile}
+use Rattle.tile.specs.declared.Tile.{Tile}
 use Rattle.tile.specs.Slots.{tiles_in}
 use Rattle.bed.specs.declared.Scan.{Scan}
 use Rattle.bed.specs.Shown.{shown_bed}

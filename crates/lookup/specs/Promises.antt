@@ -15,7 +15,8 @@
 use Rattle.std.specs.Prelude.{◌≡◌, List, ◌↔◌, ℕ, ◌+◌, ◌^◌, ◌≤◌, ◌<◌, length}
 use Rattle.refusal.specs.Refusal.{accepted, unscanned}
 use Rattle.morton.specs.Morton.{morton, Square}
-use Rattle.tile.specs.Tile.{Tile, tile, highest_order, highest_account}
+use Rattle.tile.specs.declared.Tile.{Tile}
+use Rattle.tile.specs.Tile.{tile, highest_order, highest_account}
 use Rattle.tile.specs.Slots.{tiles_in, filled}
 use Rattle.quadtree.specs.Raster.{Uniform, ◌∈◌}
 use Rattle.quadtree.specs.Quadtree.{quadtree}

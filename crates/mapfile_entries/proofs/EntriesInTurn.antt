@@ -18,7 +18,7 @@ use Rattle.basics.proofs.Tests.{test_leb}
 use Rattle.refusal.specs.Refusal.{accepted, file_cut_short, roster_unsorted}
 use Rattle.refusal.specs.Checks.{must}
 use Rattle.refusal.proofs.CheckLaws.{must_pass, must_inv, must_other}
-use Rattle.tile.specs.Tile.{Tile}
+use Rattle.tile.specs.declared.Tile.{Tile}
 use Rattle.mapfile_bytes.specs.Items.{word_at}
 use Rattle.mapfile_roster.specs.Roster.{covered, Entry}
 use Rattle.mapfile_roster.proofs.RosterLaws.{ByAccount, end, link}

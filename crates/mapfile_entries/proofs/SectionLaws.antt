@@ -15,7 +15,7 @@ use Rattle.basics.proofs.Tests.{test_leb}
 use Rattle.refusal.specs.Refusal.{accepted, file_cut_short, trailing_bytes, roster_wrong, roster_unsorted}
 use Rattle.refusal.specs.Checks.{must}
 use Rattle.refusal.proofs.CheckLaws.{must_on, must_other, else_on, else_other}
-use Rattle.tile.specs.Tile.{Tile}
+use Rattle.tile.specs.declared.Tile.{Tile}
 use Rattle.mapfile_roster.specs.Roster.{roster_good}
 use Rattle.mapfile_entries.specs.RosterCheck.{entries_at, entries_check, roster_check}
 use Rattle.mapfile_entries.proofs.EntriesInTurn.{rise_other}

@@ -11,7 +11,7 @@ use lib.Dec.{ltb, eqb}
 use borrow.Author.Tests.{eq-eqb}
 use Rattle.basics.proofs.Tests.{Test, holds, fails, test_leb, test_eqb, test_and, test_map, test_alike, told_true}
 use Rattle.basics.proofs.ChoiceLaws.{if_yes, if_no}
-use Rattle.tile.specs.Tile.{Tile}
+use Rattle.tile.specs.declared.Tile.{Tile}
 use Rattle.quadtree.proofs.Alignment.{area_pos}
 use Rattle.mapfile_roster.specs.Roster.{covered, Entry, listed, entry_good, entries_good, tiles_listed, roster_good}
 use Rattle.mapfile_roster.proofs.RosterLaws.{ByAccount}

@@ -4,7 +4,7 @@
 --     entry_right ts e      the entry has the pixels of its account, of which there are some
 --     entries_right ts es   each entry does
 use Rattle.std.specs.Prelude.{Bool, true, ◌&&◌, List, [], ◌∷◌, ℕ, ◌+◌, ◌^◌, ltb, eqb}
-use Rattle.tile.specs.Tile.{Tile}
+use Rattle.tile.specs.declared.Tile.{Tile}
 use Rattle.mapfile_roster.specs.Roster.{covered, Entry}
 
 unfoldable pub area_of : List Tile → ℕ

@@ -8,7 +8,7 @@
 use Rattle.std.specs.Prelude.{List, [], ◌∷◌, ℕ, zero, suc, ◌+◌, leb, length, get_or}
 use Rattle.refusal.specs.Refusal.{accepted, file_cut_short, trailing_bytes, roster_wrong, roster_unsorted}
 use Rattle.refusal.specs.Checks.{must, or_else}
-use Rattle.tile.specs.Tile.{Tile}
+use Rattle.tile.specs.declared.Tile.{Tile}
 use Rattle.mapfile_bytes.specs.Layout.{entries_place, entry_length, roster_length}
 use Rattle.mapfile_bytes.specs.Items.{word_at}
 use Rattle.mapfile_roster.specs.Roster.{Entry, roster_good}

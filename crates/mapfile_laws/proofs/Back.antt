@@ -15,7 +15,8 @@ use Rattle.basics.proofs.Tests.{test_leb}
 use Rattle.refusal.specs.Refusal.{accepted, file_cut_short, roster_unsorted}
 use Rattle.refusal.specs.Checks.{must, or_else}
 use Rattle.refusal.proofs.CheckLaws.{must_pass}
-use Rattle.tile.specs.Tile.{Tile, word_of}
+use Rattle.tile.specs.declared.Tile.{Tile}
+use Rattle.tile.specs.Tile.{word_of}
 use Rattle.quadtree.specs.Raster.{◌∈◌}
 use Rattle.mapfile_bytes.specs.Items.{word_at, words_at}
 use Rattle.mapfile_bytes.proofs.ItemsLaws.{word_at_drop, word_whole}

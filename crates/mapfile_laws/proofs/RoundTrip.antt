@@ -22,7 +22,8 @@ use Rattle.basics.proofs.Tests.{test_leb}
 use Rattle.refusal.specs.Refusal.{accepted, bytes_too_few, unscanned}
 use Rattle.refusal.specs.Checks.{After}
 use Rattle.refusal.proofs.CheckLaws.{must_inv, must_not, else_on, else_off, else_inv, unless_number}
-use Rattle.tile.specs.Tile.{Tile, tile_of, word_of, highest_order, highest_account}
+use Rattle.tile.specs.declared.Tile.{Tile}
+use Rattle.tile.specs.Tile.{tile_of, word_of, highest_order, highest_account}
 use Rattle.tile.specs.Slots.{tiles_in, filled}
 use Rattle.tile.proofs.TileLaws.{Packable, tile_of_account, word_of_low}
 use Rattle.tile.proofs.SlotsLaws.{tiles_words, length_tiles_in, filled_tiles_in}

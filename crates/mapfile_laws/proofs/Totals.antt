@@ -23,7 +23,8 @@ use Rattle.basics.proofs.CountLaws.{count_moved}
 use Rattle.refusal.specs.Refusal.{accepted, roster_wrong}
 use Rattle.refusal.specs.Checks.{After}
 use Rattle.refusal.proofs.CheckLaws.{must_on, must_inv}
-use Rattle.tile.specs.Tile.{Tile, tile_of}
+use Rattle.tile.specs.declared.Tile.{Tile}
+use Rattle.tile.specs.Tile.{tile_of}
 use Rattle.tile.specs.Slots.{tiles_in}
 use Rattle.quadtree.specs.Raster.{account_at}
 use Rattle.quadtree.specs.Quadtree.{quadtree}

@@ -11,7 +11,8 @@ use Rattle.std.specs.Prelude.{◌≡◌, true, ◌↔◌, ℕ, ◌+◌, ◌^◌,
 use mathlib.Core.List.{List, [], ◌∷◌, map, Memᴰ}
 use Rattle.basics.specs.Choice.{if}
 use Rattle.refusal.specs.Refusal.{accepted, roster_wrong}
-use Rattle.tile.specs.Tile.{Tile, tile_of}
+use Rattle.tile.specs.declared.Tile.{Tile}
+use Rattle.tile.specs.Tile.{tile_of}
 use Rattle.tile.specs.Slots.{tiles_in}
 use Rattle.quadtree.specs.Raster.{account_at}
 use Rattle.quadtree.specs.Quadtree.{LinearQuadtree}

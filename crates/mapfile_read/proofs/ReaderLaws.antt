@@ -16,7 +16,8 @@ use Rattle.basics.proofs.Tests.{test_leb}
 use Rattle.refusal.specs.Refusal.{accepted, order_too_large, slots_exceeded, file_cut_short, roster_wrong}
 use Rattle.refusal.specs.Checks.{or_else}
 use Rattle.refusal.proofs.CheckLaws.{must_on, must_inv, must_other, must_low, else_on, else_inv, else_other, else_low, unless_on}
-use Rattle.tile.specs.Tile.{Tile, tile_of, highest_order}
+use Rattle.tile.specs.declared.Tile.{Tile}
+use Rattle.tile.specs.Tile.{tile_of, highest_order}
 use Rattle.quadtree.specs.Valid.{Valid}
 use Rattle.list_check.specs.ListCheck.{sound_check, word_check, words_check}
 use Rattle.list_check.proofs.OneWord.{word_check_rest}

@@ -15,7 +15,8 @@ use Rattle.basics.proofs.Tests.{test_leb}
 use Rattle.refusal.specs.Refusal.{accepted, file_cut_short}
 use Rattle.refusal.specs.Checks.{must, or_else}
 use Rattle.refusal.proofs.CheckLaws.{must_on, must_off, else_on, else_off, else_inv}
-use Rattle.tile.specs.Tile.{Tile, tile_of, highest_order}
+use Rattle.tile.specs.declared.Tile.{Tile}
+use Rattle.tile.specs.Tile.{tile_of, highest_order}
 use Rattle.quadtree.specs.Valid.{Sound}
 use Rattle.list_check.specs.declared.Ahead.{Ahead}
 use Rattle.list_check.specs.declared.Judged.{Judged}

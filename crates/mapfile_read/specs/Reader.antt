@@ -10,7 +10,8 @@
 use Rattle.std.specs.Prelude.{List, [], ◌∷◌, ◌++◌, map, ℕ, zero, suc, ◌+◌, ◌-◌, ◌^◌, leb, length, drop, get_or, replicate}
 use Rattle.refusal.specs.Refusal.{accepted, order_too_large, slots_exceeded, file_cut_short}
 use Rattle.refusal.specs.Checks.{must, or_else, unless, After}
-use Rattle.tile.specs.Tile.{Tile, tile_of, highest_order}
+use Rattle.tile.specs.declared.Tile.{Tile}
+use Rattle.tile.specs.Tile.{tile_of, highest_order}
 use Rattle.quadtree.specs.Raster.{account_at}
 use Rattle.list_check.specs.ListCheck.{word_check}
 use Rattle.bed.specs.declared.Kind.TheVariants.{Rows}

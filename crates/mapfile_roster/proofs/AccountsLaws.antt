@@ -20,7 +20,8 @@ use lib.Dec.{ltb, eqb, eqb-zero-suc, eqb-suc-zero, eqb-suc-suc}
 use lib.Pow.{pow_pos, shl_exact, shr-shr}
 use borrow.Author.Tests.{lt-ltb}
 use Rattle.basics.specs.Choice.{if}
-use Rattle.tile.specs.Tile.{Tile, highest_account}
+use Rattle.tile.specs.declared.Tile.{Tile}
+use Rattle.tile.specs.Tile.{highest_account}
 use Rattle.quadtree.proofs.Alignment.{area_pos}
 use Rattle.mapfile_roster.specs.Roster.{covered}
 use Rattle.mapfile_roster.specs.Accounts.{has, SetOf, count_from, count}

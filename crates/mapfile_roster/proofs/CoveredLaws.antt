@@ -16,7 +16,8 @@ use lib.Dec.{eqb}
 use Rattle.basics.specs.Choice.{if, count}
 use Rattle.basics.proofs.Tests.{test_eqb}
 use Rattle.basics.proofs.ChoiceLaws.{if_yes, if_no}
-use Rattle.tile.specs.Tile.{Tile, highest_order}
+use Rattle.tile.specs.declared.Tile.{Tile}
+use Rattle.tile.specs.Tile.{highest_order}
 use Rattle.quadtree.specs.Raster.{Uniform, account_at, ◌∈◌}
 use Rattle.quadtree.specs.Valid.{Valid}
 use Rattle.quadtree.proofs.Alignment.{area_pos, area_mono}

@@ -13,7 +13,7 @@ use lib.Dec.{ltb}
 use Rattle.basics.specs.Choice.{if}
 use Rattle.basics.proofs.Tests.{Test, holds, fails, test_leb, test_eqb, test_and, test_map}
 use Rattle.basics.proofs.ChoiceLaws.{if_yes, if_no}
-use Rattle.tile.specs.Tile.{Tile}
+use Rattle.tile.specs.declared.Tile.{Tile}
 use Rattle.quadtree.specs.Raster.{◌∈◌}
 use Rattle.mapfile_roster.specs.Roster.{covered, Entry, listed, entry_good, entries_good, tiles_listed, roster_good}
 use Rattle.mapfile_roster.proofs.CoveredLaws.{covered_some, covered_none}

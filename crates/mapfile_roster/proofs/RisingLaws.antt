@@ -12,7 +12,8 @@ use lib.Dec.{eqb}
 use Rattle.basics.specs.Choice.{if}
 use Rattle.basics.proofs.Tests.{test_eqb, told_true}
 use Rattle.basics.proofs.ChoiceLaws.{if_yes, if_no}
-use Rattle.tile.specs.Tile.{Tile, highest_account}
+use Rattle.tile.specs.declared.Tile.{Tile}
+use Rattle.tile.specs.Tile.{highest_account}
 use Rattle.quadtree.specs.Raster.{◌∈◌}
 use Rattle.quadtree.specs.Valid.{Valid}
 use Rattle.mapfile_roster.specs.Roster.{covered, Entry, roster_of, listed}

@@ -22,7 +22,8 @@ use borrow.Author.Tests.{lt-ltb, eq-eqb}
 use Rattle.basics.specs.Choice.{count}
 use Rattle.basics.proofs.Tests.{test_leb, test_eqb}
 use Rattle.basics.proofs.ChoiceLaws.{if_yes, if_no, by_if}
-use Rattle.tile.specs.Tile.{Tile, highest_account}
+use Rattle.tile.specs.declared.Tile.{Tile}
+use Rattle.tile.specs.Tile.{highest_account}
 use Rattle.quadtree.specs.Raster.{◌∈◌}
 use Rattle.quadtree.specs.Valid.{Valid}
 use Rattle.quadtree.proofs.ValidLaws.{valid_quadrant}

@@ -8,7 +8,8 @@
 --                          account has an entry. Where the entries stand does not matter here: it is checked ahead
 use Rattle.std.specs.Prelude.{Bool, true, ◌&&◌, List, [], ◌∷◌, ℕ, zero, suc, ◌+◌, ◌^◌, ltb, eqb}
 use Rattle.basics.specs.Choice.{if}
-use Rattle.tile.specs.Tile.{Tile, highest_account}
+use Rattle.tile.specs.declared.Tile.{Tile}
+use Rattle.tile.specs.Tile.{highest_account}
 
 unfoldable pub covered : ℕ → List Tile → ℕ
 covered a [] = 0

@@ -12,7 +12,8 @@ use native.Mathlib.Omega.{arith}
 use lib.ListN.{length, drop, get_or}
 use Rattle.basics.proofs.Tests.{test_leb}
 use Rattle.basics.proofs.ChoiceLaws.{by_if}
-use Rattle.tile.specs.Tile.{Tile, word_of, highest_order, highest_account}
+use Rattle.tile.specs.declared.Tile.{Tile}
+use Rattle.tile.specs.Tile.{word_of, highest_order, highest_account}
 use Rattle.quadtree.specs.Raster.{◌∈◌}
 use Rattle.quadtree.specs.Valid.{Valid}
 use Rattle.quadtree.proofs.Alignment.{area_mono}

@@ -13,7 +13,8 @@ use lib.ListN.{length, take, drop, get_or, length-append}
 use lib.Seq.{drop-cons, drop-length}
 use borrow.Author.Tests.{ltb-false}
 use Rattle.basics.specs.Choice.{if}
-use Rattle.tile.specs.Tile.{Tile, tile_of, highest_account}
+use Rattle.tile.specs.declared.Tile.{Tile}
+use Rattle.tile.specs.Tile.{tile_of, highest_account}
 use Rattle.tile.specs.Slots.{tiles_in}
 use Rattle.mapfile_roster.specs.Roster.{covered, roster_from, roster_of}
 use Rattle.mapfile_roster.specs.Accounts.{has, SetOf, count_from, count}

@@ -19,7 +19,8 @@ use lib.Seq.{sets, drop-cons, drop-length}
 use Rattle.basics.specs.Choice.{if}
 use Rattle.basics.proofs.Tests.{test_leb}
 use Rattle.basics.proofs.ChoiceLaws.{if_yes, if_no}
-use Rattle.tile.specs.Tile.{Tile, tile_of, highest_account}
+use Rattle.tile.specs.declared.Tile.{Tile}
+use Rattle.tile.specs.Tile.{tile_of, highest_account}
 use Rattle.tile.specs.Slots.{tiles_in}
 use Rattle.mapfile_roster.specs.Roster.{covered, Entry, roster_from}
 use Rattle.mapfile_sections.specs.OneEntry.{entry_of}

@@ -13,7 +13,7 @@ use Rattle.basics.proofs.ChoiceLaws.{if_no}
 use Rattle.refusal.specs.Refusal.{accepted, file_cut_short}
 use Rattle.refusal.specs.Checks.{After}
 use Rattle.refusal.proofs.CheckLaws.{unless_number}
-use Rattle.tile.specs.Tile.{Tile}
+use Rattle.tile.specs.declared.Tile.{Tile}
 use Rattle.tile.specs.Slots.{tiles_in}
 use Rattle.quadtree.specs.Valid.{Valid}
 use Rattle.bed.specs.declared.Scan.{Scan}

@@ -12,7 +12,8 @@
 --     ReadsSorted         what the reader answers of the roster of a file, whatever its bytes are (`RosterRead`)
 use Rattle.std.specs.Prelude.{◌≡◌, false, List, [], map, ◌↔◌, ℕ, ◌+◌, ◌*◌, ◌≤◌, ◌<◌, length, take, get_or}
 use Rattle.refusal.specs.Refusal.{accepted, file_cut_short, trailing_bytes, roster_wrong, roster_unsorted}
-use Rattle.tile.specs.Tile.{Tile, tile_of, highest_order}
+use Rattle.tile.specs.declared.Tile.{Tile}
+use Rattle.tile.specs.Tile.{tile_of, highest_order}
 use Rattle.tile.specs.Slots.{tiles_in}
 use Rattle.bed.specs.declared.Scan.{Scan}
 use Rattle.mapfile_bytes.specs.Layout.{words_place, entries_place, entry_length, roster_length}

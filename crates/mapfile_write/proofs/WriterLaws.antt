@@ -19,7 +19,8 @@ use Rattle.basics.proofs.Tests.{test_leb}
 use Rattle.refusal.specs.Refusal.{accepted, bytes_too_few}
 use Rattle.refusal.specs.Checks.{must, unless, After}
 use Rattle.refusal.proofs.CheckLaws.{must_on, must_off, else_on, else_off, else_inv, unless_off}
-use Rattle.tile.specs.Tile.{Tile, word_of, highest_order}
+use Rattle.tile.specs.declared.Tile.{Tile}
+use Rattle.tile.specs.Tile.{word_of, highest_order}
 use Rattle.tile.specs.Slots.{tiles_in}
 use Rattle.tile.proofs.SlotsLaws.{words_tiles, length_tiles_in}
 use Rattle.quadtree.specs.Valid.{Valid}

@@ -8,7 +8,8 @@
 use Rattle.std.specs.Prelude.{List, ◌∷◌, ◌++◌, map, ℕ, leb, length, drop}
 use Rattle.refusal.specs.Refusal.{accepted, bytes_too_few}
 use Rattle.refusal.specs.Checks.{must, or_else, unless, After}
-use Rattle.tile.specs.Tile.{Tile, word_of}
+use Rattle.tile.specs.declared.Tile.{Tile}
+use Rattle.tile.specs.Tile.{word_of}
 use Rattle.tile.specs.Slots.{tiles_in}
 use Rattle.bed.specs.declared.Scan.{Scan}
 use Rattle.scan_check.specs.Opening.{opening}

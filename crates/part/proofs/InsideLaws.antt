@@ -21,7 +21,8 @@ use Rattle.basics.proofs.Tests.{Test, test_leb, test_and}
 use Rattle.basics.proofs.ChoiceLaws.{if_yes, if_no}
 use Rattle.refusal.specs.Refusal.{accepted}
 use Rattle.refusal.proofs.CheckLaws.{else_inv, unless_on, unless_off}
-use Rattle.tile.specs.Tile.{Tile, stop, tile_of, highest_order}
+use Rattle.tile.specs.declared.Tile.{Tile}
+use Rattle.tile.specs.Tile.{stop, tile_of, highest_order}
 use Rattle.tile.specs.Slots.{tiles_in}
 use Rattle.tile.proofs.SlotsLaws.{length_tiles_in}
 use Rattle.quadtree.specs.Raster.{Aligned, ◌∈◌}

@@ -17,7 +17,8 @@ use Rattle.basics.specs.Choice.{if}
 use Rattle.basics.proofs.Tests.{Test, holds, fails}
 use Rattle.basics.proofs.ChoiceLaws.{if_yes, if_no}
 use Rattle.refusal.specs.Refusal.{accepted}
-use Rattle.tile.specs.Tile.{Tile, stop, tile_of}
+use Rattle.tile.specs.declared.Tile.{Tile}
+use Rattle.tile.specs.Tile.{stop, tile_of}
 use Rattle.tile.specs.Slots.{tiles_in}
 use Rattle.quadtree.specs.Raster.{◌∈◌}
 use Rattle.quadtree.specs.Valid.{Chain, end, link}

@@ -10,7 +10,8 @@
 use Rattle.std.specs.Prelude.{Bool, ◌&&◌, List, ℕ, ◌+◌, ◌*◌, ◌^◌, leb, take, drop}
 use Rattle.refusal.specs.Refusal.{accepted}
 use Rattle.refusal.specs.Checks.{or_else, unless}
-use Rattle.tile.specs.Tile.{Tile, stop}
+use Rattle.tile.specs.declared.Tile.{Tile}
+use Rattle.tile.specs.Tile.{stop}
 use Rattle.tile.specs.Slots.{tiles_in}
 use Rattle.list_check.specs.ListCheck.{list_check}
 use Rattle.checks.specs.Asked.{block_check}

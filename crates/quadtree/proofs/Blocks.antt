@@ -13,7 +13,8 @@ use mathlib.Core.Logic.{inl, inr}
 use Prim.Native.Nat.{ℕ, zero, suc, ◌+◌, ◌*◌, ◌^◌, ◌≤◌, ◌<◌}
 use native.Mathlib.Omega.{arith}
 use Rattle.basics.proofs.Tests.{Test, holds, test_eqb, test_and, test_map, by_test, choose_yes, choose_no}
-use Rattle.tile.specs.Tile.{Tile, tile}
+use Rattle.tile.specs.declared.Tile.{Tile}
+use Rattle.tile.specs.Tile.{tile}
 use Rattle.quadtree.specs.Raster.{Aligned, Uniform, uniform, ◌∈◌}
 use Rattle.quadtree.specs.Quadtree.{single, four, blocks, quadtree}
 use Rattle.quadtree.proofs.Alignment.{cmp, below, same, above, area_pos, aligned_down, aligned_next, aligned_quarter, aligned_nest}

@@ -7,7 +7,8 @@ use mathlib.Core.List.{List, [], ◌∷◌, ◌++◌, Sublistᴰ}
 use mathlib.Core.Logic.{◌⊎◌, inl, inr}
 use Prim.Native.Nat.{ℕ, zero, suc, ◌≤◌, ◌<◌}
 use native.Mathlib.Omega.{arith}
-use Rattle.tile.specs.Tile.{Tile, stop}
+use Rattle.tile.specs.declared.Tile.{Tile}
+use Rattle.tile.specs.Tile.{stop}
 use Rattle.quadtree.specs.Raster.{Aligned, ◌∈◌, Quadrant}
 use Rattle.quadtree.specs.Valid.{Chain, end, link, quarter, Merged, Valid}
 use Rattle.quadtree.proofs.Alignment.{area_pos}

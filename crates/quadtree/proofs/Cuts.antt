@@ -9,7 +9,8 @@ use mathlib.Core.List.{List, [], ◌∷◌}
 use Prim.Native.Nat.{ℕ, zero, suc, ◌+◌, ◌-◌, ◌^◌, ◌≤◌, ◌<◌}
 use native.Mathlib.Omega.{arith}
 use Rattle.basics.proofs.Tests.{test_leb, test_and, by_test, choose_yes, choose_no}
-use Rattle.tile.specs.Tile.{Tile, tile}
+use Rattle.tile.specs.declared.Tile.{Tile}
+use Rattle.tile.specs.Tile.{tile}
 use Rattle.quadtree.specs.Raster.{Aligned}
 use Rattle.quadtree.proofs.Alignment.{cmp, below, same, above, area_pos, area_mono, aligned_unit, aligned_down, test_aligned}
 use Rattle.quadtree.specs.Runs.{Greedy, largest, cut_in, cut}

@@ -4,7 +4,8 @@ use mathlib.Core.List.{List, ◌∷◌, ◌++◌, Sublistᴰ}
 use mathlib.Core.Logic.{◌↔◌}
 use Prim.Native.Nat.{ℕ, ◌+◌, ◌^◌, ◌≤◌, ◌<◌}
 use lib.ListN.{length}
-use Rattle.tile.specs.Tile.{Tile, stop}
+use Rattle.tile.specs.declared.Tile.{Tile}
+use Rattle.tile.specs.Tile.{stop}
 use Rattle.quadtree.specs.Raster.{Aligned, Uniform, account_at, paint, ◌∈◌, Shows}
 use Rattle.quadtree.specs.Quadtree.{Largest, LinearQuadtree, quadtree}
 use Rattle.quadtree.specs.Valid.{Valid}

@@ -11,7 +11,8 @@ use native.Mathlib.Omega.{arith}
 use lib.ListN.{length}
 use lib.Dec.{leb}
 use Rattle.basics.proofs.Tests.{test_leb, choose_yes, choose_no}
-use Rattle.tile.specs.Tile.{Tile, stop}
+use Rattle.tile.specs.declared.Tile.{Tile}
+use Rattle.tile.specs.Tile.{stop}
 use Rattle.quadtree.specs.Raster.{Aligned, Covers, Uniform, ◌∈◌, Quadrant, Shows}
 use Rattle.quadtree.specs.Quadtree.{quadtree}
 use Rattle.quadtree.proofs.Alignment.{area_pos, aligned_down, aligned_gap}

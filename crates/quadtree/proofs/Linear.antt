@@ -12,7 +12,8 @@ use mathlib.Core.Logic.{◌⊎◌, inl, inr}
 use Prim.Native.Nat.{ℕ, ◌+◌, ◌^◌, ◌≤◌, ◌<◌}
 use native.Mathlib.Decide.{dec_lt, dec_le}
 use native.Mathlib.Omega.{arith}
-use Rattle.tile.specs.Tile.{Tile, stop}
+use Rattle.tile.specs.declared.Tile.{Tile}
+use Rattle.tile.specs.Tile.{stop}
 use Rattle.quadtree.specs.Raster.{Aligned, Covers, Uniform, account_at, ◌∈◌, Shows}
 use Rattle.quadtree.specs.Quadtree.{Largest, Rising, end, link, LinearQuadtree, quadtree}
 use Rattle.quadtree.specs.Valid.{Valid}

@@ -8,7 +8,7 @@ use Prim.Native.Nat.{ℕ, zero, suc, ◌+◌, ◌^◌, ◌<◌}
 use native.Mathlib.Omega.{arith}
 use Rattle.basics.proofs.Tests.{test_eqb, test_and}
 use Rattle.basics.proofs.ChoiceLaws.{by_if}
-use Rattle.tile.specs.Tile.{Tile}
+use Rattle.tile.specs.declared.Tile.{Tile}
 use Rattle.quadtree.specs.Raster.{Uniform}
 use Rattle.quadtree.specs.Quadtree.{quadtree, LinearQuadtree}
 use Rattle.quadtree.proofs.Alignment.{cmp, below, same, above}

@@ -12,7 +12,8 @@ use native.Mathlib.Decide.{dec_lt}
 use native.Mathlib.Omega.{arith}
 use lib.Dec.{leb, ltb}
 use Rattle.basics.proofs.Tests.{Test, test_leb, test_and, by_test, choose_yes, choose_no}
-use Rattle.tile.specs.Tile.{Tile, stop, tile_of, highest_account}
+use Rattle.tile.specs.declared.Tile.{Tile}
+use Rattle.tile.specs.Tile.{stop, tile_of, highest_account}
 use Rattle.tile.proofs.TileLaws.{tile_of_account}
 use Rattle.quadtree.specs.Raster.{Covers, covers, account_at, paint}
 use Rattle.quadtree.proofs.Tiling.{Tiling, none, next}

@@ -14,7 +14,8 @@ use mathlib.Core.Logic.{inl, inr}
 use Prim.Native.Nat.{ℕ, zero, suc, ◌+◌, ◌*◌, ◌^◌, ◌≤◌, ◌<◌}
 use native.Mathlib.Omega.{arith}
 use native.Mathlib.Nat.{le_refl, mul-le-mul_right}
-use Rattle.tile.specs.Tile.{Tile, tile, stop}
+use Rattle.tile.specs.declared.Tile.{Tile}
+use Rattle.tile.specs.Tile.{tile, stop}
 use Rattle.quadtree.specs.Raster.{Aligned, ◌∈◌}
 use Rattle.quadtree.specs.Valid.{Chain, end, link, quarter, Merged}
 use Rattle.quadtree.proofs.Alignment.{area_pos}

@@ -9,7 +9,8 @@ use mathlib.Core.List.{List, [], ◌∷◌, ◌++◌}
 use Prim.Native.Nat.{ℕ, ◌≤◌, ◌<◌}
 use native.Mathlib.Omega.{arith}
 use native.Mathlib.Nat.{le_refl}
-use Rattle.tile.specs.Tile.{Tile, stop}
+use Rattle.tile.specs.declared.Tile.{Tile}
+use Rattle.tile.specs.Tile.{stop}
 use Rattle.quadtree.specs.Raster.{Uniform, ◌∈◌}
 use Rattle.quadtree.proofs.Alignment.{cmp, below, same, above, area_pos}
 pub use Rattle.quadtree.specs.Tiling.{On, Next, Tiling, none, next}

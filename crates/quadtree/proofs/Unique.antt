@@ -9,7 +9,8 @@ use Prim.Native.Nat.{ℕ, zero, suc, ◌+◌, ◌^◌, ◌≤◌, ◌<◌}
 use native.Mathlib.Decide.{dec_lt, dec_le}
 use native.Mathlib.Nat.{le_of_eq}
 use native.Mathlib.Omega.{arith}
-use Rattle.tile.specs.Tile.{Tile, tile, stop}
+use Rattle.tile.specs.declared.Tile.{Tile}
+use Rattle.tile.specs.Tile.{tile, stop}
 use Rattle.quadtree.specs.Raster.{Aligned, Uniform, ◌∈◌}
 use Rattle.quadtree.proofs.Alignment.{cmp, below, same, above, area_pos, size_le, aligned_down, aligned_gap, aligned_next}
 use Rattle.quadtree.proofs.Tiling.{Next, Tiling, none, next, tiling_le, on_corner}

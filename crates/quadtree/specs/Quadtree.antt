@@ -8,7 +8,8 @@
 --     quadtree n f            the same of the bed of order n
 -- That `quadtree n f` is the `LinearQuadtree` is the law `quadtree_linear`.
 use Rattle.std.specs.Prelude.{true, false, List, [], ◌∷◌, ◌++◌, ◌↔◌, ℕ, zero, suc, ◌+◌, ◌*◌, ◌^◌, ◌≤◌, ◌<◌}
-use Rattle.tile.specs.Tile.{Tile, tile, stop}
+use Rattle.tile.specs.declared.Tile.{Tile}
+use Rattle.tile.specs.Tile.{tile, stop}
 use Rattle.quadtree.specs.Raster.{Aligned, Uniform, uniform, Quadrant, ◌∈◌}
 
 -- no larger quadrant of the bed that has the tile's corner is uniform with its account

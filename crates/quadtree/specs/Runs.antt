@@ -12,7 +12,8 @@
 -- That `tiles_of n (runs_of n f)` is the linear quadtree of f is the law of runs (`runs`, proofs/Laws.antt).
 use Rattle.std.specs.Prelude.{◌≡◌, true, false, ◌&&◌, List, [], ◌∷◌, ◌++◌, ℕ, zero, suc, ◌+◌, ◌-◌, ◌^◌, ◌≤◌, ◌<◌, leb, eqb}
 use Rattle.basics.specs.Choice.{if}
-use Rattle.tile.specs.Tile.{Tile, tile}
+use Rattle.tile.specs.declared.Tile.{Tile}
+use Rattle.tile.specs.Tile.{tile}
 use Rattle.quadtree.specs.Raster.{Aligned, Uniform, aligned}
 
 pub record Greedy (lo hi k : ℕ) : Type 0 where

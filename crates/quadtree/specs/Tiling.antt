@@ -9,7 +9,8 @@
 --     Between g n a b t    the tiles of a, t and the tiles of b, in this order, tile the raster g of order n
 --     Apart a b t          t's three siblings do not all stand next to it between a and b
 use Rattle.std.specs.Prelude.{◌≡◌, List, [], ◌∷◌, ◌++◌, ℕ, zero, suc, ◌+◌, ◌-◌, ◌*◌, ◌^◌, ◌≤◌, ◌<◌}
-use Rattle.tile.specs.Tile.{Tile, tile, stop, corner_at, highest_order}
+use Rattle.tile.specs.declared.Tile.{Tile}
+use Rattle.tile.specs.Tile.{tile, stop, corner_at, highest_order}
 use Rattle.quadtree.specs.Raster.{Aligned, Uniform}
 
 pub record Levels (e l : ℕ) : Type 0 where

@@ -7,7 +7,8 @@
 --                       are all in ts
 --     Valid n ts        ts is a valid list of order n
 use Rattle.std.specs.Prelude.{List, [], ◌∷◌, ℕ, suc, ◌+◌, ◌*◌, ◌^◌, ◌≤◌, ◌<◌}
-use Rattle.tile.specs.Tile.{Tile, tile, stop}
+use Rattle.tile.specs.declared.Tile.{Tile}
+use Rattle.tile.specs.Tile.{tile, stop}
 use Rattle.quadtree.specs.Raster.{Aligned, Quadrant, ◌∈◌}
 
 pub record Sound (n lo : ℕ) (t : Tile) : Type 0 where

@@ -4,7 +4,7 @@
 --                             this leaves, with the other slots 0
 use Rattle.std.specs.Prelude.{List, ℕ, length}
 use Rattle.refusal.specs.Checks.{unless, After}
-use Rattle.tile.specs.Tile.{Tile}
+use Rattle.tile.specs.declared.Tile.{Tile}
 use Rattle.tile.specs.Slots.{filled}
 use Rattle.quadtree.specs.Quadtree.{quadtree}
 use Rattle.bed.specs.declared.Scan.{Scan}

@@ -18,7 +18,7 @@ use Rattle.basics.proofs.Tests.{Test, holds, fails, test_leb, test_eqb, test_tru
 use Rattle.refusal.specs.Refusal.{accepted, unscanned}
 use Rattle.refusal.specs.Checks.{must}
 use Rattle.refusal.proofs.CheckLaws.{must_on, must_off, must_inv}
-use Rattle.tile.specs.Tile.{Tile}
+use Rattle.tile.specs.declared.Tile.{Tile}
 use Rattle.quadtree.specs.Raster.{Aligned, account_at, ◌∈◌}
 use Rattle.quadtree.specs.Valid.{Valid}
 use Rattle.quadtree.proofs.Alignment.{area_pos, aligned_room}

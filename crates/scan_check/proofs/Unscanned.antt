@@ -1,6 +1,4 @@
--- The place of a pixel as code computes it, and check 22.
---     place_rows, place_morton   the place of a pixel as the code computes it, by kind
---     place_fits                 it fits a word
+-- Check 22.
 --     word_quadrant              the words of a valid list are quadrant tiles
 --     opened                     one word of the list, or the words behind it, decide
 --     covers_none                no word is left
@@ -16,7 +14,8 @@ use lib.Seq.{drop-cons, get_or-take, length-take-le}
 use Rattle.basics.proofs.Tests.{told_false, neither}
 use Rattle.morton.specs.Morton.{column, row, side_bits}
 use Rattle.morton.proofs.MortonLaws.{column_wide, row_wide}
-use Rattle.tile.specs.Tile.{Tile, tile_of, highest_order}
+use Rattle.tile.specs.declared.Tile.{Tile}
+use Rattle.tile.specs.Tile.{tile_of, highest_order}
 use Rattle.tile.specs.Slots.{tiles, tiles_in}
 use Rattle.tile.proofs.SlotTiles.{tiles_in_in}
 use Rattle.quadtree.specs.Raster.{account_at, Quadrant}
@@ -31,35 +30,6 @@ use Rattle.bed.specs.Places.{place_of, unscanned_in}
 use Rattle.bed.proofs.PlaceLaws.{place_of_lt}
 use Rattle.bed.proofs.ScannedBlocks.{test_unscanned}
 use Rattle.scan_check.specs.Opening.{covers_unscanned}
-
-module _ (k : Kind) (n z x y : ℕ) (e : k ≡ Rows) (h : n ≤ highest_order) (l : z < 4 ^ n) (ex : x ≡ row side_bits z) (ey : y ≡ column side_bits z) where
-  row_is : x ≡ row n z
-  row_is = ex ∙ row_wide n side_bits z h l
-
-  column_is : y ≡ column n z
-  column_is = ey ∙ column_wide n side_bits z h l
-
-  -- no bit is shifted out
-  shifted : x * 2 ^ n % 2 ^ 32 ≡ row n z * 2 ^ n
-  unfolding place_of
-  shifted =
-      let big : 4 ^ n ≤ 4 ^ highest_order = area_mono h in
-      let m = ap (λ (r : ℕ). r * 2 ^ n) row_is in
-      omega (arith, place_of_lt Rows n z l)
-
-  pub place_rows : x * 2 ^ n % 2 ^ 32 + y ≡ place_of k n z
-  unfolding place_of
-  place_rows = rw (e, shifted, column_is)
-
-  pub place_fits : x * 2 ^ n % 2 ^ 32 + y < 2 ^ 32
-  unfolding place_of
-  place_fits =
-      let big : 4 ^ n ≤ 4 ^ highest_order = area_mono h in
-      omega (arith, place_of_lt Rows n z l, shifted, column_is)
-
-pub place_morton : (k : Kind) (n z : ℕ) → k ≡ Morton → z ≡ place_of k n z
-unfolding place_of
-place_morton k n z e = rw e
 
 module _ (slots : List ℕ) (t i : ℕ) (h : i < t) (l : t ≤ length slots) where
   pub word_quadrant : {n : ℕ} → Valid n (tiles_in t slots) → Quadrant n (tile_of (get_or slots i 0))

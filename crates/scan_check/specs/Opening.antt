@@ -5,7 +5,7 @@
 use Rattle.std.specs.Prelude.{Bool, false, not, ◌||◌, List, [], ◌∷◌, ℕ, ◌^◌, leb}
 use Rattle.refusal.specs.Refusal.{accepted, scanned_too_large, tile_unscanned}
 use Rattle.refusal.specs.Checks.{must, or_else}
-use Rattle.tile.specs.Tile.{Tile}
+use Rattle.tile.specs.declared.Tile.{Tile}
 use Rattle.tile.specs.Slots.{tiles_in}
 use Rattle.list_check.specs.ListCheck.{list_check}
 use Rattle.bed.specs.declared.Scan.{Scan}

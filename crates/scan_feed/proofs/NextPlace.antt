@@ -15,7 +15,8 @@ use native.Mathlib.Omega.{arith}
 use lib.Pow.{pow_pos, pow_mono}
 use Rattle.morton.specs.Morton.{morton, side_bits}
 use Rattle.morton.proofs.MortonLaws.{morton_wide}
-use Rattle.tile.specs.Tile.{Tile, highest_order}
+use Rattle.tile.specs.declared.Tile.{Tile}
+use Rattle.tile.specs.Tile.{highest_order}
 use Rattle.quadtree.specs.Raster.{Aligned}
 use Rattle.quadtree.specs.Quadtree.{quadtree}
 use Rattle.quadtree.proofs.Alignment.{area_mono}

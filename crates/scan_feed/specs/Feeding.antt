@@ -16,7 +16,7 @@
 --                                 gives
 use Rattle.std.specs.Prelude.{◌≡◌, List, ℕ, ◌+◌, ◌^◌, ◌≤◌, ◌<◌, length, drop}
 use Rattle.refusal.specs.Refusal.{accepted}
-use Rattle.tile.specs.Tile.{Tile}
+use Rattle.tile.specs.declared.Tile.{Tile}
 use Rattle.tile.specs.Slots.{tiles}
 use Rattle.quadtree.specs.Quadtree.{quadtree}
 use Rattle.bed.specs.declared.Kind.{Kind}

@@ -10,7 +10,8 @@ use native.Mathlib.Omega.{arith}
 use lib.ListN.{length, take, set}
 use lib.Seq.{take-suc-set, drop-set-lt, get_or-set_same}
 use borrow.Author.Tests.{lt-ltb, le-ltb}
-use Rattle.tile.specs.Tile.{Tile, tile_of, word_of, highest_account}
+use Rattle.tile.specs.declared.Tile.{Tile}
+use Rattle.tile.specs.Tile.{tile_of, word_of, highest_account}
 use Rattle.tile.proofs.TileLaws.{tile_word}
 use Rattle.quadtree.proofs.Alignment.{area_pos}
 use Rattle.list_push.specs.Merging.{up_to, MergedInto}

@@ -18,7 +18,8 @@ use lib.Dec.{ltb}
 use lib.ListN.{length, take, drop, get_or, length-append, length-map, length-drop, drop_of_length-le}
 use lib.Seq.{slice, take-suc, drop-cons, length-take-le}
 use borrow.Author.Tests.{lt-ltb, le-ltb}
-use Rattle.tile.specs.Tile.{Tile, tile, stop, tile_of}
+use Rattle.tile.specs.declared.Tile.{Tile}
+use Rattle.tile.specs.Tile.{tile, stop, tile_of}
 use Rattle.tile.specs.Slots.{tiles}
 use Rattle.list_words.proofs.Moves.{front_pieces}
 use Rattle.quadtree.specs.Raster.{Aligned, ◌∈◌, Uniform, paint}

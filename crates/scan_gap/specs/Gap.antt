@@ -16,7 +16,8 @@
 --                            not
 --     Moved s t i b z g      the gap moved to the pixel z, and the same words are held
 use Rattle.std.specs.Prelude.{◌≡◌, Bool, true, false, List, [], ◌∷◌, ◌++◌, ℕ, ◌+◌, ◌-◌, ◌^◌, ◌≤◌, ◌<◌, ltb, length, take, drop, get_or}
-use Rattle.tile.specs.Tile.{Tile, stop, tile_of}
+use Rattle.tile.specs.declared.Tile.{Tile}
+use Rattle.tile.specs.Tile.{stop, tile_of}
 use Rattle.tile.specs.Slots.{tiles}
 use Rattle.quadtree.specs.Raster.{Aligned, Uniform, paint}
 use Rattle.quadtree.specs.Quadtree.{quadtree}

@@ -17,7 +17,7 @@ use lib.Dec.{eqb}
 use lib.ListN.{length, length-append}
 use Rattle.basics.proofs.Tests.{Test, holds, fails, test_and, test_eqb}
 use Rattle.basics.proofs.ChoiceLaws.{by_if, if_yes, if_no}
-use Rattle.tile.specs.Tile.{Tile}
+use Rattle.tile.specs.declared.Tile.{Tile}
 use Rattle.quadtree.specs.Raster.{Aligned, Covers, Uniform, Shows, Quadrant, ◌∈◌}
 use Rattle.quadtree.specs.Quadtree.{quadtree, single, four, blocks}
 use Rattle.quadtree.proofs.Alignment.{area_pos}

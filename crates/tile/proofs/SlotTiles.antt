@@ -10,7 +10,8 @@ use Prim.Native.Nat.{ℕ, zero, suc, ◌+◌, ◌≤◌, ◌<◌}
 use native.Mathlib.Omega.{arith}
 use lib.ListN.{length, take, drop, get_or, get_or-map}
 use lib.Seq.{get_or-take, take-nil}
-use Rattle.tile.specs.Tile.{Tile, tile_of}
+use Rattle.tile.specs.declared.Tile.{Tile}
+use Rattle.tile.specs.Tile.{tile_of}
 use Rattle.tile.specs.Slots.{tiles_in}
 use Rattle.tile.proofs.SlotsLaws.{length_tiles_in}
 

@@ -11,7 +11,8 @@ use Prim.Native.Nat.{ℕ, ◌-◌, ◌≤◌}
 use native.Mathlib.Omega.{arith}
 use lib.ListN.{length, take, replicate, length-append, length-replicate, length-map}
 use lib.Seq.{length-take-le, take_at}
-use Rattle.tile.specs.Tile.{Tile, tile_of, word_of}
+use Rattle.tile.specs.declared.Tile.{Tile}
+use Rattle.tile.specs.Tile.{tile_of, word_of}
 use Rattle.tile.specs.Slots.{tiles_in, filled}
 use Rattle.tile.proofs.TileLaws.{Packable, word_tile, tile_word}
 

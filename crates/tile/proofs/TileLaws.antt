@@ -11,7 +11,8 @@ use mathlib.Core.Path.{◌≡◌}
 use Prim.Native.Nat.{ℕ, ◌+◌, ◌*◌, ◌/◌, ◌%◌, ◌^◌, ◌≤◌, ◌<◌}
 use native.Mathlib.Nat.{div-add-mod'}
 use native.Mathlib.Omega.{arith}
-use Rattle.tile.specs.Tile.{Tile, tile_of, word_of, highest_order, highest_account, word_limit}
+use Rattle.tile.specs.declared.Tile.{Tile}
+use Rattle.tile.specs.Tile.{tile_of, word_of, highest_order, highest_account, word_limit}
 
 pub record Packable (t : Tile) : Type 0 where
   pub size : t.size < 16

@@ -3,7 +3,8 @@
 --     tiles_in t slots   the tiles of the first t slots
 --     filled m ts       what m slots hold when the list ts is left in them: its words from the first on, the rest 0
 use Rattle.std.specs.Prelude.{List, ◌++◌, map, ℕ, ◌-◌, length, take, replicate}
-use Rattle.tile.specs.Tile.{Tile, tile_of, word_of}
+use Rattle.tile.specs.declared.Tile.{Tile}
+use Rattle.tile.specs.Tile.{tile_of, word_of}
 
 abbrev pub tiles : List ℕ → List Tile
 tiles ws = map tile_of ws

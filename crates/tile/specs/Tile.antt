@@ -11,10 +11,7 @@
 -- Not here: which tiles lie in a bed (quadtree, `Quadrant`), which words are refused (list_check, `word_check`).
 use Rattle.std.specs.Prelude.{ℕ, ◌+◌, ◌-◌, ◌*◌, ◌/◌, ◌%◌, ◌^◌}
 
-pub record Tile : Type 0 where
-  pub corner : ℕ
-  pub size : ℕ
-  pub account : ℕ
+use Rattle.tile.specs.declared.Tile.{Tile}
 
 abbrev pub tile : ℕ → ℕ → ℕ → Tile
 tile c k a = record { corner = c; size = k; account = a }

@@ -1,9 +1,48 @@
-// The tile word, packed and unpacked by shifts and masks, and the areas and corners of blocks. No other crate knows the
-// bits.
+// Tiles and their words, packed and unpacked by shifts and masks, and the areas, sides and corners of blocks. No other
+// crate knows the bits.
 #![tactic(auto)]
 
 ghost use Rattle.std.specs.Prelude.{◌≡◌, ◌^◌, ◌<◌, ◌≤◌};
-ghost use Rattle.tile.specs.Tile.{tile, stop, corner_at, tile_of, word_of, highest_order, highest_account};
+ghost use Rattle.tile.specs.Tile.{stop, corner_at, tile_of, word_of, highest_order, highest_account};
+
+// A block of a bed, or a place for one: its corner's Morton number and its size.
+#[derive(Clone, Copy, Debug, PartialEq, Eq)]
+pub struct Block {
+    pub corner: u32,
+    pub size: u32,
+}
+
+// A block and its account.
+#[derive(Clone, Copy, Debug, PartialEq, Eq)]
+pub struct Tile {
+    pub corner: u32,
+    pub size: u32,
+    pub account: u8,
+}
+
+impl Tile {
+    // The word of a tile.
+    pub fn word(self) -> u32
+        requires { (self.corner < 4 ^ highest_order) × (self.size ≤ highest_order)
+            × (self.account ≤ highest_account) }
+        ensures { result ≡ word_of self }
+    {
+        (self.corner << CORNER_PLACE) | (self.size << ACCOUNT_BITS) | self.account as u32
+    }
+}
+
+// The tile of a word.
+impl From<u32> for Tile {
+    ghost from_gives = { λ w t. t ≡ tile_of w };
+
+    fn from(word: u32) -> Tile {
+        Tile {
+            corner: corner(word),
+            size: size(word),
+            account: account(word),
+        }
+    }
+}
 
 // Orders and sizes go from 0 to it.
 pub const HIGHEST_ORDER: u32 = 10;
@@ -46,20 +85,20 @@ pub fn account(w: u32) -> u8
     (w & ACCOUNT_MASK) as u8
 }
 
-// The word of a tile.
-pub fn pack(corner: u32, size: u32, account: u8) -> u32
-    requires { (corner < 4 ^ highest_order) × (size ≤ highest_order) × (account ≤ highest_account) }
-    ensures { result ≡ word_of (tile corner size account) }
-{
-    (corner << CORNER_PLACE) | (size << ACCOUNT_BITS) | account as u32
-}
-
 // The pixels of a tile of a size.
 pub fn area(size: u32) -> u32
     requires { size ≤ 15 }
     ensures { result ≡ 4 ^ size }
 {
     1u32 << (2 * size)
+}
+
+// The columns, or rows, of a block of a size.
+pub fn side(size: u32) -> u32
+    requires { size ≤ 15 }
+    ensures { result ≡ 2 ^ size }
+{
+    1u32 << size
 }
 
 // The first Morton number past the tile of the word w.

@@ -3,7 +3,8 @@
 use Rattle.std.specs.Prelude.{◌≡◌, List, [], ◌∷◌, map, ℕ, length, take, replicate}
 use Rattle.refusal.specs.Refusal.{accepted, size_above_order, slots_exceeded}
 use Rattle.refusal.specs.Checks.{After}
-use Rattle.tile.specs.Tile.{Tile, tile, word_of}
+use Rattle.tile.specs.declared.Tile.{Tile}
+use Rattle.tile.specs.Tile.{tile, word_of}
 use Rattle.tile.specs.Slots.{tiles_in, filled}
 use Rattle.quadtree.specs.Quadtree.{quadtree}
 use Rattle.list_check.specs.ListCheck.{list_check}

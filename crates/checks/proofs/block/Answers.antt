@@ -18,14 +18,14 @@ pub returns-then-area-corner : goal.returns-then-area-corner
 unfolding block_check block_in aligned must
 returns-then-area-corner c =
     let a = c.args in
-    let h : 4 ^ a.order ≤ a.corner = omega (arith, c.area.ensures) in
+    let h : 4 ^ a.order ≤ a.block.corner = omega (arith, c.area.ensures) in
     simp (le-leb _ _ c.if-order-size.false, le-ltb _ _ h)
 
 pub returns-then-corner-area-ne0 : goal.returns-then-corner-area-ne0
 returns-then-corner-area-ne0 c =
     let a = c.args in
     let area = c.area in
-    block_unaligned a.order a.corner a.size c.area-2.result c.area-2.ensures (omega arith) (omega (
+    block_unaligned a.order a.block.corner a.block.size c.area-2.result c.area-2.ensures (omega arith) (omega (
       arith,
       area.ensures,
     )) c.if-corner-area-ne0.true
@@ -34,8 +34,8 @@ pub returns : goal.returns
 returns c =
     let a = c.args in
     let area = c.area in
-    block_inside a.order a.corner a.size c.area-2.result c.area-2.ensures (omega arith) (omega (arith, area.ensures))
+    block_inside a.order a.block.corner a.block.size c.area-2.result c.area-2.ensures (omega arith) (omega (arith, area.ensures))
     c.if-corner-area-ne0.false
 
 pub nonzero_rem-corner : goal.nonzero_rem-corner
-nonzero_rem-corner c = omega (arith, c.area-2.ensures, area_pos c.args.size)
+nonzero_rem-corner c = omega (arith, c.area-2.ensures, area_pos c.args.block.size)

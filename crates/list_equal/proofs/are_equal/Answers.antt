@@ -1,7 +1,7 @@
 -- The words are compared in turn: what is left to compare decides.
 use mathlib.Core.Path.{◌∙◌, refl, ap, sym}
 use native.Mathlib.Omega.{arith}
-use Rattle.tile.specs.Tile.{Tile}
+use Rattle.tile.specs.declared.Tile.{Tile}
 use Rattle.list_equal.proofs.Turns.{along_room, read_none, read_more, read_other, read_all}
 use Rattle.list_equal.proofs.are_equal.Goals as goal
 

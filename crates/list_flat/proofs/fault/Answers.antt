@@ -4,7 +4,7 @@ use Prim.Native.Nat.{◌^◌}
 use native.Mathlib.Omega.{arith}
 use borrow.Author.Tests.{eqb-true, eqb-false, eq-eqb, ltb-false, not-false}
 use Rattle.basics.proofs.Tests.{neither}
-use Rattle.tile.specs.Tile.{Tile}
+use Rattle.tile.specs.declared.Tile.{Tile}
 use Rattle.tile.proofs.TileLaws.{tile_of_size}
 use Rattle.tile.proofs.Bits.{stop_fits}
 use Rattle.quadtree.proofs.Alignment.{area_pos}
