@@ -1,26 +1,17 @@
 -- Bytes looked at in turn: the laws that the loops cite.
---     one_no, one_yes           a byte is nobody's, or somebody's
 --     quad_most, quads_most, pairs_most   sums that fit
---     none_above, above_more    the highest so far
+--     none_above                no byte yet
 --     pairs_room                the next pair of rows is there
 --     rows_join                 pairs of rows, and those behind them
-use mathlib.Core.Path.{◌≡◌, ap, sym}
+use mathlib.Core.Path.{◌≡◌, ap}
 use mathlib.Core.List.{List}
 use Prim.Native.Nat.{ℕ, ◌+◌, ◌*◌, ◌≤◌, ◌<◌}
 use native.Mathlib.Nat.{mul-le-mul_right, add-mul}
-use native.Mathlib.Decide.{dec_lt}
 use native.Mathlib.Omega.{arith}
-use lib.ListN.{get_or}
-use Rattle.scan_stretch.specs.Weight.{one, total}
-use Rattle.scan_stretch.proofs.Quads.{one_nobody, one_somebody, weight_most}
+use Rattle.scan_stretch.specs.Weight.{total}
+use Rattle.scan_stretch.proofs.Quads.{weight_most}
 use Rattle.scan_stretch.proofs.Totals.{total_most, total_add, total_same}
 use Rattle.scan_weigh.specs.Weighed.{quad_from, pair_from, rows_from, NoneAbove}
-
-pub one_no : (a : ℕ) → a ≡ 0 → 0 ≡ one a
-one_no a e = sym (one_nobody a e)
-
-pub one_yes : (a : ℕ) → (a ≡ 0 → ⊥) → 1 ≡ one a
-one_yes a e = sym (one_somebody a (omega arith))
 
 pub quad_most : (bytes : List ℕ) (w i : ℕ) → quad_from bytes w i ≤ 4
 quad_most bytes w i = weight_most _ _ _ _
@@ -34,9 +25,6 @@ pairs_most bytes w q i h e = total_most (λ j. pair_from bytes w q (i + j * (2 *
 
 pub none_above : (bytes : List ℕ) (lo a : ℕ) → NoneAbove bytes lo lo a
 none_above bytes lo a i l u = absurd (omega arith)
-
-pub above_more : (bytes : List ℕ) (lo i a b : ℕ) → NoneAbove bytes lo i a → a ≤ b → get_or bytes i 0 ≤ b → NoneAbove bytes lo (i + 1) b
-above_more bytes lo i a b w l h j p q = elim (dec_lt j i) [ yes d ↦ omega (arith, w j p d) | no d ↦ let e : j ≡ i = omega arith in rw e h ]
 
 pub pairs_room : (j h w at n : ℕ) → j < h → at + h * (2 * w) ≤ n → at + j * (2 * w) + 2 * w ≤ n
 pairs_room j h w at n l r = omega (arith, mul-le-mul_right (2 * w) (let s : j + 1 ≤ h = omega arith in s), add-mul j 1 (2 * w))

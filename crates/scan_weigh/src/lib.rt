@@ -2,27 +2,27 @@
 // put.
 #![tactic(auto)]
 
-ghost use Rattle.std.specs.Prelude.{◌≡◌, ◌+◌, ◌-◌, ◌*◌, ◌<◌, ◌≤◌, length};
+ghost use Rattle.std.specs.Prelude.{◌≡◌, ◌+◌, ◌-◌, ◌*◌, ◌<◌, ◌≤◌, length, get_or};
 ghost use Rattle.scan_stretch.specs.Weight.{one, weight, total};
 ghost use Rattle.scan_weigh.specs.Weighed.{quad_from, pair_from, rows_from, NoneAbove};
 
 // 1 for somebody's account, 0 for nobody's.
+#[tactic(auto, unfolding(scan_stretch::specs::Weight::one))]
 fn somebody(account: u8) -> u8
-    ensures { result ≡ one account }
+    ensures value { result ≡ one account }
+    ensures most { result ≤ 1 }
 {
     if account == 0 { 0 } else { 1 }
 }
 
-// What four accounts weigh.
-fn weigh(a: u8, b: u8, c: u8, d: u8) -> u8
-    ensures { result ≡ weight a b c d }
+// What the four accounts of a quad weigh.
+fn weigh(quad: [u8; 4]) -> u8
+    ensures { result ≡ weight (get_or quad 0 0) (get_or quad 1 0) (get_or quad 2 0)
+        (get_or quad 3 0) }
 {
-    if a == b {
-        if b == c {
-            if c == d {
-                return somebody(a) + somebody(a);
-            }
-        }
+    let [a, b, c, d] = quad;
+    if a == b && b == c && c == d {
+        return somebody(a) + somebody(a);
     }
     (somebody(a) + somebody(b)) + (somebody(c) + somebody(d))
 }
@@ -32,12 +32,12 @@ fn quad(accounts: &[u8], i: usize, width: usize) -> u8
     requires { i + width + 1 < length accounts.now }
     ensures { result ≡ quad_from accounts.now width i }
 {
-    weigh(
+    weigh([
         accounts[i],
         accounts[i + 1],
         accounts[i + width],
         accounts[i + width + 1],
-    )
+    ])
 }
 
 // What some quads of two rows weigh, which are few, so that a byte is enough: the compiler then adds many at a time.
@@ -46,29 +46,14 @@ fn few(accounts: &[u8], at: usize, width: usize, from: usize, to: usize) -> u8
     ensures { result ≡ total (λ j. quad_from accounts.now width (at + 2 * j)) from (to - from) }
 {
     let mut sum: u8 = 0;
-    let mut j = from;
-    while j < to {
+    for j in from..to {
         sum += quad(accounts, at + 2 * j, width);
-        j += 1;
     }
     sum
 }
 
-// The end of the next few quads.
-fn few_end(from: usize, to: usize) -> usize
-    requires { from < to }
-    ensures { (from < result) × (result ≤ to) × (result ≤ from + 32) }
-{
-    if to - from < 32 { to } else { from + 32 }
-}
-
-fn long(x: u8) -> usize
-    ensures { result ≡ x }
-{
-    x as usize
-}
-
-// What the quads of the two rows from the account number `at` on weigh.
+// What the quads of the two rows from the account number `at` on weigh. The last few may be fewer, so that the step
+// varies.
 fn pair(accounts: &[u8], at: usize, width: usize, quads: usize) -> usize
     requires { at + 2 * quads + width ≤ length accounts.now }
     ensures { result ≡ pair_from accounts.now width quads at }
@@ -76,8 +61,8 @@ fn pair(accounts: &[u8], at: usize, width: usize, quads: usize) -> usize
     let mut sum = 0;
     let mut j = 0;
     while j < quads {
-        let end = few_end(j, quads);
-        sum += long(few(accounts, at, width, j, end));
+        let end = quads.min(j + 32);
+        sum += few(accounts, at, width, j, end) as usize;
         j = end;
     }
     sum
@@ -89,32 +74,19 @@ pub fn rows(accounts: &[u8], at: usize, width: usize, quads: usize, pairs: usize
     ensures { result ≡ rows_from accounts.now width quads at pairs }
 {
     let mut sum = 0;
-    let mut i = at;
-    let mut done = 0;
-    while done < pairs {
-        sum += pair(accounts, i, width, quads);
-        i += 2 * width;
-        done += 1;
+    for j in 0..pairs {
+        sum += pair(accounts, at + j * (2 * width), width, quads);
     }
     sum
 }
 
-fn larger(a: u8, b: u8) -> u8
-    ensures { (a ≤ result) × (b ≤ result) }
-{
-    if a < b { b } else { a }
-}
-
-// An account that none of those from `from` up to `to` is above.
-pub fn highest(accounts: &[u8], from: usize, to: usize) -> u8
-    requires { (from ≤ to) × (to ≤ length accounts.now) }
-    ensures { NoneAbove accounts.now from to result }
+// An account that none of the accounts is above.
+pub fn highest(accounts: &[u8]) -> u8
+    ensures { NoneAbove accounts.now 0 (length accounts.now) result }
 {
     let mut top = 0;
-    let mut i = from;
-    while i < to {
-        top = larger(top, accounts[i]);
-        i += 1;
+    for &account in accounts {
+        top = top.max(account);
     }
     top
 }

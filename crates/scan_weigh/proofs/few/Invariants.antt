@@ -2,11 +2,8 @@
 use Rattle.scan_weigh.specs.Weighed.{quad_from}
 use Rattle.scan_stretch.specs.Weight.{total}
 use mathlib.Core.Path.{◌≡◌}
-use Prim.Native.Nat.{◌+◌, ◌-◌, ◌*◌, ◌≤◌}
+use Prim.Native.Nat.{◌+◌, ◌-◌, ◌*◌}
 use Rattle.scan_weigh.proofs.few.Given as goal
 
 abbrev pub invariant-loop-j : goal.invariant-loop-j
-invariant-loop-j l = ((l.from ≤ l.j) × (l.j ≤ l.to)) × (l.sum ≡ total (λ i. quad_from l.accounts l.width (l.at + 2 * i)) l.from (l.j - l.from))
-
-abbrev pub decreases-loop-j : goal.decreases-loop-j
-decreases-loop-j l = l.to - l.j
+invariant-loop-j l = l.sum ≡ total (λ i. quad_from l.accounts l.width (l.at + 2 * i)) l.from (l.j - l.from)

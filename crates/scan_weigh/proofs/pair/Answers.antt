@@ -2,7 +2,7 @@
 use Rattle.scan_weigh.specs.Weighed.{quad_from}
 use Rattle.scan_stretch.proofs.Totals.{total_none, total_join}
 use Rattle.scan_weigh.proofs.Weighing.{quads_most}
-use mathlib.Core.Path.{◌≡◌, ◌∙◌}
+use mathlib.Core.Path.{◌≡◌}
 use Prim.Native.Nat.{◌+◌, ◌-◌, ◌*◌}
 use native.Mathlib.Omega.{arith}
 use Rattle.scan_weigh.proofs.pair.Goals as goal
@@ -17,20 +17,11 @@ pub loop-j-preserved : goal.loop-j-preserved
 loop-j-preserved c =
     let args = c.args in
     let loop = c.loop-j in
-    let few-end = c.few_end-end in
-    let end = few-end.ensures in
-    (omega (arith, end), total_join (λ i. quad_from args.accounts.now args.width (args.at + 2 * i)) 0 loop.j few-end.result loop.sum c.long-sum.result (omega arith) (omega (arith, end)) loop.invariant.1 (c.long-sum.ensures ∙ c.few.ensures))
-
-pub few-requires : goal.few-requires
-few-requires c = (omega (arith, c.few_end-end.ensures), omega (arith, c.few_end-end.ensures), omega (arith, c.few_end-end.ensures, c.requires))
+    let end = c.min-end.result in
+    (omega arith, total_join (λ i. quad_from args.accounts.now args.width (args.at + 2 * i)) 0 loop.j end loop.sum c.few.result (omega arith) (omega arith) loop.invariant.1 c.few.ensures)
 
 pub overflow_add-sum : goal.overflow_add-sum
 overflow_add-sum c =
-    let pre = c.requires in
     let args = c.args in
     let loop = c.loop-j in
-    let few-end = c.few_end-end in
-    omega (arith, pre, few-end.ensures, loop.invariant, quads_most args.accounts.now args.width args.at 0 (loop.j - 0), c.long-sum.ensures, c.few.ensures, quads_most args.accounts.now args.width args.at loop.j (few-end.result - loop.j))
-
-pub loop-j-smaller : goal.loop-j-smaller
-loop-j-smaller c = omega (arith, c.few_end-end.ensures)
+    omega (arith, quads_most args.accounts.now args.width args.at 0 (loop.j - 0), quads_most args.accounts.now args.width args.at loop.j (c.min-end.result - loop.j))

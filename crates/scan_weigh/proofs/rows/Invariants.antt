@@ -2,11 +2,8 @@
 use Rattle.scan_weigh.specs.Weighed.{pair_from}
 use Rattle.scan_stretch.specs.Weight.{total}
 use mathlib.Core.Path.{◌≡◌}
-use Prim.Native.Nat.{◌+◌, ◌-◌, ◌*◌, ◌≤◌}
+use Prim.Native.Nat.{◌+◌, ◌*◌}
 use Rattle.scan_weigh.proofs.rows.Given as goal
 
-abbrev pub invariant-loop-done : goal.invariant-loop-done
-invariant-loop-done l = ((l.done ≤ l.pairs) × (l.i ≡ l.at + l.done * (2 * l.width))) × (l.sum ≡ total (λ j. pair_from l.accounts l.width l.quads (l.at + j * (2 * l.width))) 0 l.done)
-
-abbrev pub decreases-loop-done : goal.decreases-loop-done
-decreases-loop-done l = l.pairs - l.done
+abbrev pub invariant-loop-j : goal.invariant-loop-j
+invariant-loop-j l = l.sum ≡ total (λ j. pair_from l.accounts l.width l.quads (l.at + j * (2 * l.width))) 0 l.j

@@ -1,44 +1,19 @@
 -- All three tests passed: the accounts are the same. One of them failed: they are not.
-use Rattle.scan_stretch.proofs.Quads.{one_most, weight_same, weight_mixed}
-use native.Mathlib.Omega.{arith}
+use Rattle.std.proofs.Common.{get_or}
+use Rattle.scan_stretch.proofs.Quads.{weight_same, weight_mixed}
+use Rattle.scan_weigh.proofs.weigh.Goals.{else-a-b-via-then-a-b+then-b-c+else-c-d, else-a-b-via-then-a-b+else-b-c, else-a-b-via-else-a-b}
 use Rattle.scan_weigh.proofs.weigh.Goals as goal
 
 pub returns-then-c-d : goal.returns-then-c-d
 returns-then-c-d c =
-    let args = c.args in
-    let if1 = c.if-a-b in
-    let if2 = c.if-b-c in
-    let if3 = c.if-c-d in
-    rw (c.somebody.ensures, c.somebody-then-c-d.ensures) (weight_same args.a args.b args.c args.d if1.true if2.true if3.true)
+    let q = c.args.quad in
+    rw (c.somebody.ensures.value, c.somebody-then-c-d.ensures.value) (weight_same (get_or q 0 0) (get_or q 1 0) (get_or q 2 0) (get_or q 3 0) c.if-a-b.true c.if-b-c.true c.if-c-d.true)
 
 pub returns : goal.returns
 returns c =
-    let args = c.args in
-    let if1 = c.if-a-b in
-    let somebody3 = c.somebody-2 in
-    let somebody4 = c.somebody-3 in
-    rw (somebody3.ensures, somebody4.ensures, c.somebody-4.ensures, c.somebody-5.ensures) (weight_mixed args.a args.b args.c args.d (λ s. elim if1.branch [
-      | goal.then-a-b+then-b-c+else-c-d x ↦ x.if-c-d.false s.1.1
-      | goal.then-a-b+else-b-c x ↦ x.if-b-c.false s.1.0
-      | goal.else-a-b x ↦ x.if-a-b.false s.0
+    let q = c.args.quad in
+    rw (c.somebody-2.ensures.value, c.somebody-3.ensures.value, c.somebody-4.ensures.value, c.somebody-5.ensures.value) (weight_mixed (get_or q 0 0) (get_or q 1 0) (get_or q 2 0) (get_or q 3 0) (λ s. elim c.else-a-b.branch [
+      | else-a-b-via-then-a-b+then-b-c+else-c-d w ↦ w.if-c-d.false s.1.1
+      | else-a-b-via-then-a-b+else-b-c w ↦ w.if-b-c.false s.1.0
+      | else-a-b-via-else-a-b w ↦ w.if-a-b.false s.0
     ]))
-
-pub overflow_add-result : goal.overflow_add-result
-overflow_add-result c = omega (arith, c.somebody.ensures, c.somebody-then-c-d.ensures, one_most c.args.a)
-
-pub overflow_add-result-2 : goal.overflow_add-result-2
-overflow_add-result-2 c =
-    let args = c.args in
-    omega (arith, c.somebody-2.ensures, c.somebody-3.ensures, one_most args.a, one_most args.b)
-
-pub overflow_add-result-3 : goal.overflow_add-result-3
-overflow_add-result-3 c =
-    let args = c.args in
-    omega (arith, c.somebody-4.ensures, c.somebody-5.ensures, one_most args.c, one_most args.d)
-
-pub overflow_add-result-4 : goal.overflow_add-result-4
-overflow_add-result-4 c =
-    let args = c.args in
-    let somebody3 = c.somebody-2 in
-    let somebody4 = c.somebody-3 in
-    omega (arith, somebody3.ensures, somebody4.ensures, c.somebody-4.ensures, c.somebody-5.ensures, one_most args.a, one_most args.b, one_most args.c, one_most args.d)
