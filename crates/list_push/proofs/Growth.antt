@@ -3,7 +3,7 @@
 --                       words and the tile of size q that ends with t
 --     grown_start       at first it is t itself
 --     grown_more        the three siblings ahead of the tile go with it into the tile of the next size
---     sibling_room      what their size is asked for
+--     sibling_room, sibling_end   what their size is asked for, and where the tile of that size ends
 --     merged_short, merged_other, merged_top   no more: too few words, others, or no larger block ends with t
 use mathlib.Core.Path.{◌≡◌, refl, ap}
 use mathlib.Core.List.{List, ◌++◌}
@@ -41,6 +41,10 @@ level_room t q l h = omega (arith, aligned_gap (aligned_zero q) (aligned_down h 
 
 pub sibling_room : (t : Tile) {most : ℕ} (q : ℕ) → Levels (stop t) most → q < most → 4 * 4 ^ q ≤ stop t
 sibling_room t q l h = omega (arith, level_room t (suc q) l h)
+
+-- the tile of the size reached ends where t ends
+pub sibling_end : (t : Tile) {most : ℕ} (q a b : ℕ) → Levels (stop t) most → q < most → a ≡ 4 ^ t.size → b ≡ 4 ^ q → t.corner + a - b + 4 ^ q ≡ stop t
+sibling_end t q a b l h ea eb = omega (arith, sibling_room t q l h)
 
 module _ {s : List ℕ} {i : ℕ} {t : Tile} {j q most : ℕ} (l : Levels (stop t) most) (grown : Grown s i t j q) where
   pub grown_more : q < most → 3 ≤ j → tiles (take j s) ≡ tiles (take (j - 3) s) ++ equal_tiles q t.account 3 (stop t - 4 * 4 ^ q) → Grown s i t (j - 3) (q + 1)

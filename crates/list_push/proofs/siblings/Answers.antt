@@ -1,49 +1,35 @@
 -- Each word is compared with the word of the sibling that it must be.
-use Rattle.list_push.proofs.SiblingWords.{three_not, three_last}
+use mathlib.Core.Path.{◌∙◌, sym}
+use Rattle.std.proofs.lemmas.Bool.{eqb-true, eq-eqb}
+use Rattle.list_push.proofs.SiblingWords.{true_false, three_not, three_last}
 use Rattle.quadtree.proofs.Alignment.{area_pos}
 use native.Mathlib.Omega.{arith}
 use Rattle.list_push.proofs.siblings.Goals as goal
+use Rattle.list_push.proofs.siblings.Goals.{then-slots-top, else-slots-top}
 
-pub pack-requires : goal.pack-requires
-pack-requires c =
+pub word_ahead-requires : goal.word_ahead-requires
+word_ahead-requires c =
     let p = c.requires in
-    (omega (arith, c.area-area.ensures, area_pos c.args.size, p.room, p.inside), p.few, p.low)
+    (omega (arith, p.room), omega (arith, p.inside, area_pos c.args.last.size), p.few, p.low)
 
-pub returns-then-slots-top : goal.returns-then-slots-top
-returns-then-slots-top c =
-    let e = c.area-area.ensures in
-    let f = c.pack.ensures in
-    three_not c.requires (λ q. c.if-slots-top.true (let g = q.0 in cc))
-
-pub pack-requires-2 : goal.pack-requires-2
-pack-requires-2 c =
+pub word_ahead-requires-then-slots-top : goal.word_ahead-requires-then-slots-top
+word_ahead-requires-then-slots-top c =
     let p = c.requires in
-    let area = c.area-area in
-    let a = c.args in
-    (omega (arith, area.ensures, area_pos a.size, p.room, p.inside), p.few, p.low)
+    (omega (arith, p.room), omega (arith, p.inside, area_pos c.args.last.size), p.few, p.low)
+
+pub word_ahead-requires-then-slots-top-2 : goal.word_ahead-requires-then-slots-top-2
+word_ahead-requires-then-slots-top-2 c =
+    let p = c.requires in
+    (omega (arith, p.room), omega (arith, p.inside, area_pos c.args.last.size), p.few, p.low)
 
 pub returns-then-slots-top-2 : goal.returns-then-slots-top-2
-returns-then-slots-top-2 c =
-    let e = c.area-area.ensures in
-    let f = c.pack-2.ensures in
-    three_not c.requires (λ q. c.if-slots-top-2.true (let g = q.1 in cc))
+returns-then-slots-top-2 c = elim c.if-slots-top.branch [
+  | then-slots-top w ↦ three_last c.args.last c.requires _ (w.if-slots-top.true ∙ c.word_ahead.ensures) (eqb-true _ _ (sym w.value-is ∙ c.if-slots-top-2.true) ∙ w.word_ahead-then-slots-top.ensures) c.word_ahead-then-slots-top-2.ensures
+  | else-slots-top w ↦ absurd (w.if-slots-top.false (eqb-true _ _ (sym w.value-is ∙ c.if-slots-top-2.true)))
+]
 
-pub pack-requires-3 : goal.pack-requires-3
-pack-requires-3 c =
-    let p = c.requires in
-    let area = c.area-area in
-    let a = c.args in
-    (omega (arith, area.ensures, area_pos a.size, p.room, p.inside), p.few, p.low)
-
-pub returns : goal.returns
-returns c =
-    let area = c.area-area in
-    let pack = c.pack in
-    let pack2 = c.pack-2 in
-    let p = c.requires in
-    let if1 = c.if-slots-top in
-    let e = area.ensures in
-    let f = pack.ensures in
-    let g = pack2.ensures in
-    let h = c.pack-3.ensures in
-    three_last (p) _ (let i = if1.false in cc) (let i = c.if-slots-top-2.false in cc) (cc)
+pub returns-else-slots-top-2 : goal.returns-else-slots-top-2
+returns-else-slots-top-2 c = three_not c.args.last c.requires _ c.if-slots-top-2.false (λ q. elim c.if-slots-top.branch [
+  | then-slots-top w ↦ true_false (sym (eq-eqb _ _ (q.1 ∙ sym w.word_ahead-then-slots-top.ensures)) ∙ sym w.value-is ∙ c.if-slots-top-2.false)
+  | else-slots-top w ↦ w.if-slots-top.false (q.0 ∙ sym c.word_ahead.ensures)
+])
