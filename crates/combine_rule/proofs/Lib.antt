@@ -1,3 +1,3 @@
 -- Laws of the pixel rule.
---     RuleCases   the rule, case by case, and its bound
+--     RuleCases   the rule of a choice, case by case
 pub mod RuleCases

@@ -1,14 +1,13 @@
--- The rule, case by case, and its bound. Elsewhere only worked lines, which compute it, look into the rule.
+-- The rule of a choice, case by case. Elsewhere only worked lines, which compute it, look into the rule.
 --     inside_held, inside_free     inside, at a pixel that is somebody's or nobody's on the second map
 --     outside_free, outside_held   outside
---     rule_accounts                of two accounts it makes an account
 --     rule_nobody                  of nobody's on the first map it makes nobody's
 use mathlib.Core.Path.{◌≡◌, refl}
 use Prim.Native.Nat.{ℕ, zero, suc, ◌-◌, ◌<◌}
 use native.Mathlib.Omega.{arith}
 use Rattle.combine_rule.specs.declared.Choice.{Choice}
 use Rattle.combine_rule.specs.declared.Choice.TheVariants.{Inside, Outside}
-use Rattle.combine_rule.specs.Rule.{rule_of, MakesAccounts}
+use Rattle.combine_rule.specs.Rule.{rule_of}
 
 module _ {choice : Choice} (a b : ℕ) where
   pub inside_held : choice ≡ Inside → 0 < b → a ≡ rule_of choice a b
@@ -26,13 +25,6 @@ module _ {choice : Choice} (a b : ℕ) where
   pub outside_held : choice ≡ Outside → 0 < b → 0 ≡ rule_of choice a b
   unfolding rule_of
   outside_held e h = let s : b ≡ suc (b - 1) = omega arith in rw (e, s)
-
-pub rule_accounts : (choice : Choice) → MakesAccounts (rule_of choice)
-unfolding rule_of
-rule_accounts Inside a zero h l = omega arith
-rule_accounts Inside a (suc b) h l = h
-rule_accounts Outside a zero h l = h
-rule_accounts Outside a (suc b) h l = omega arith
 
 pub rule_nobody : (choice : Choice) (b : ℕ) → rule_of choice 0 b ≡ 0
 unfolding rule_of

@@ -1,2 +1,3 @@
--- The pixel rule.
+-- The pixel rules.
+pub mod Accounts
 pub mod Rule

@@ -66,11 +66,13 @@ past_room {g} {end} {z} {u} {us} p = go p.tiling
     go (next n r) = tiling_le r
 
 module _ {end t : ℕ} {s : List ℕ} {z i : ℕ} (p : Stands end t s z i) where
-  pub piece_none : t ≤ i → z < end → PieceOf end t s z (record { account = 0; stop = end; at = i })
-  piece_none h l = record {
-    stretch = record { some = l; room = omega arith; uniform = past_none (rw (tiles_none t s i (omega (arith, p.upto)) p.within) at p.past); low = omega arith };
-    stands = p;
-  }
+  pub piece_none : t ≤ i → z < end → PieceOf end t s z (record { account = 0; stop = end; at = t })
+  piece_none h l =
+      let e : i ≡ t = omega (arith, p.upto) in
+      record {
+        stretch = record { some = l; room = omega arith; uniform = past_none (rw (tiles_none t s i e p.within) at p.past); low = omega arith };
+        stands = rw e at p;
+      }
 
   -- the word w at i
   module _ (h : i < t) (w : ℕ) (e : w ≡ get_or s i 0) where

@@ -5,15 +5,19 @@
 --     PieceOf end t s z r    r is such a stretch of one list, with its cursor
 --     Both                   the cursors of two lists
 --     StepOf                 such a stretch of the raster f that two lists make, and their cursors at its end
+--     NextOf                 a step at z, or none, as z is the bed's end
 --     RunOf f .. z a r       from z on f has a whole run of the account a; r has its end and the next step there
-use Rattle.std.specs.Prelude.{List, ℕ, ◌≤◌, ◌<◌, length, drop}
+--     BothOf, StepBy, RunBy  the same of two whole lists of words, and of the raster that a rule makes of them
+use Rattle.std.specs.Prelude.{◌≡◌, List, ℕ, ◌≤◌, ◌<◌, length, drop, Option, None, Some}
 use Rattle.tile.specs.declared.Tile.{Tile}
 use Rattle.tile.specs.Tile.{highest_account}
 use Rattle.tile.specs.Slots.{tiles_in}
 use Rattle.quadtree.specs.Raster.{Uniform, account_at}
 use Rattle.quadtree.specs.Tiling.{Tiling}
 use Rattle.quadtree.specs.Runs.{RunAt}
+use Rattle.combine_rule.specs.Rule.{third_raster}
 use Rattle.combine_walk.specs.declared.Piece.{Piece}
+use Rattle.combine_walk.specs.declared.Place.{Place}
 use Rattle.combine_walk.specs.declared.Step.{Step}
 use Rattle.combine_walk.specs.declared.RunEnd.{RunEnd}
 
@@ -42,10 +46,25 @@ pub record Both (end t : ℕ) (s : List ℕ) (u : ℕ) (w : List ℕ) (z i j : �
   pub second : Stands end u w z j
 
 pub record StepOf (f : ℕ → ℕ) (end t : ℕ) (s : List ℕ) (u : ℕ) (w : List ℕ) (z : ℕ) (r : Step) : Type 0 where
-  pub stretch : Stretch f end z r.account r.stop
-  pub both : Both end t s u w r.stop r.first r.second
+  pub from : r.from ≡ z
+  pub stretch : Stretch f end z r.account r.end.z
+  pub both : Both end t s u w r.end.z r.end.first r.end.second
+
+abbrev pub NextOf : (ℕ → ℕ) → ℕ → ℕ → List ℕ → ℕ → List ℕ → ℕ → Option Step → Type 0
+NextOf f end t s u w z None = end ≤ z
+NextOf f end t s u w z (Some r) = StepOf f end t s u w z r
 
 pub record RunOf (f : ℕ → ℕ) (end t : ℕ) (s : List ℕ) (u : ℕ) (w : List ℕ) (z a : ℕ) (r : RunEnd) : Type 0 where
   pub run : RunAt f end z a r.stop
   pub low : a ≤ highest_account
-  pub ahead : r.stop < end → StepOf f end t s u w r.stop r.next
+  pub ahead : NextOf f end t s u w r.stop r.next
+
+abbrev pub BothOf : ℕ → List ℕ → List ℕ → Place → Type 0
+BothOf end s w p = Both end (length s) s (length w) w p.z p.first p.second
+
+abbrev pub StepBy : (ℕ → ℕ → ℕ) → ℕ → List ℕ → List ℕ → ℕ → Step → Type 0
+StepBy rule end s w z r = StepOf (third_raster rule (length s) s (length w) w) end (length s) s (length w) w z r
+
+abbrev pub RunBy : (ℕ → ℕ → ℕ) → ℕ → List ℕ → List ℕ → Step → RunEnd → Type 0
+RunBy rule end s w b r =
+    RunOf (third_raster rule (length s) s (length w) w) end (length s) s (length w) w b.from b.account r

@@ -2,54 +2,58 @@
 // the runs of the third map, one after the other. The rule over the pixels is asked, and never looked into.
 #![tactic(auto)]
 
-ghost use Rattle.std.specs.Prelude.{ℕ, ◌<◌, ◌≤◌};
-ghost use Rattle.combine_rule.specs.Rule.{rule_of, third_raster};
-ghost use Rattle.combine_walk.specs.Walk.{Stands, PieceOf, Both, StepOf, RunOf};
+ghost use Rattle.std.specs.Prelude.{ℕ, ◌<◌, length};
+ghost use Rattle.combine_rule.specs.Rule.{third_raster};
+ghost use Rattle.combine_walk.specs.Walk.{Stands, PieceOf, BothOf, StepBy, RunBy};
 
-use combine_rule::Choice;
+use combine_rule::Rule;
 
-// A stretch of one map: its account, where it ends, and the first tile that does not end ahead of it.
-#[derive(Clone, Copy)]
-pub struct Piece {
-    pub account: u8,
-    pub stop: u32,
-    pub at: usize,
+// Two maps of one order: how many pixels each has, and the words of their lists.
+#[derive(Clone, Copy, Debug, PartialEq, Eq)]
+pub struct Pair<'a> {
+    pub end: u32,
+    pub first: &'a [u32],
+    pub second: &'a [u32],
 }
 
-// A stretch of the third map: its account, where it ends, and the cursors of both lists there.
-#[derive(Clone, Copy)]
-pub struct Step {
-    pub account: u8,
-    pub stop: u32,
+// A pixel, and the cursor of each list there: no tile ahead of the cursor ends behind the pixel.
+#[derive(Clone, Copy, Debug, PartialEq, Eq)]
+pub struct Place {
+    pub z: u32,
     pub first: usize,
     pub second: usize,
 }
 
-// The end of a run of the third map, and the step that begins the next run there. At the bed's end there is none, and
-// `next` says nothing.
-#[derive(Clone, Copy)]
-pub struct RunEnd {
-    pub stop: u32,
-    pub next: Step,
+// A stretch of one map: its account, where it ends, and the first tile that does not end ahead of it.
+#[derive(Clone, Copy, Debug, PartialEq, Eq)]
+struct Piece {
+    account: u8,
+    stop: u32,
+    at: usize,
 }
 
-fn least(a: u32, b: u32) -> u32
-    ensures { (result ≤ a) × (result ≤ b) × ((x : ℕ) → x < a → x < b → x < result) }
-{
-    if a < b {
-        return a;
-    }
-    b
+// A stretch of the third map: where it begins, its account, and the place where it ends.
+#[derive(Clone, Copy, Debug, PartialEq, Eq)]
+pub struct Step {
+    pub from: u32,
+    pub account: u8,
+    pub end: Place,
+}
+
+// The end of a run of the third map, and the step that begins the next run there: none at the bed's end.
+#[derive(Clone, Copy, Debug, PartialEq, Eq)]
+pub struct RunEnd {
+    pub stop: u32,
+    pub next: Option<Step>,
 }
 
 // The stretch of one map from z on.
-fn next_piece(end: u32, tiles: usize, slots: &[u32], i: usize, z: u32) -> Piece
-    requires { (z < end) × Stands end tiles slots.now z i }
-    ensures { PieceOf end tiles slots.now z result }
+fn next_piece(end: u32, words: &[u32], i: usize, z: u32) -> Piece
+    requires { (z < end) × Stands end (length words.now) words.now z i }
+    ensures { PieceOf end (length words.now) words.now z result }
 {
-    let mut at = i;
-    while at < tiles {
-        let w = slots[at];
+    for at in i..words.len() {
+        let w = words[at];
         let stop = tile::stop(w);
         if z < stop {
             let corner = tile::corner(w);
@@ -63,75 +67,52 @@ fn next_piece(end: u32, tiles: usize, slots: &[u32], i: usize, z: u32) -> Piece
             let account = tile::account(w);
             return Piece { account, stop, at };
         }
-        at += 1;
     }
     Piece {
         account: 0,
         stop: end,
-        at,
+        at: words.len(),
     }
 }
 
-// The stretch of the third map from z on, up to where either map's stretch ends.
-pub fn next_step(
-    choice: Choice,
-    end: u32,
-    tiles1: usize,
-    slots1: &[u32],
-    tiles2: usize,
-    slots2: &[u32],
-    i: usize,
-    j: usize,
-    z: u32,
-) -> Step
-    requires { (z < end) × Both end tiles1 slots1.now tiles2 slots2.now z i j }
-    ensures { StepOf (third_raster (rule_of choice) tiles1 slots1.now tiles2
-        slots2.now) end tiles1 slots1.now tiles2 slots2.now z result }
-{
-    let p = next_piece(end, tiles1, slots1, i, z);
-    let q = next_piece(end, tiles2, slots2, j, z);
-    let account = combine_rule::keep(choice, p.account, q.account);
-    let stop = least(p.stop, q.stop);
-    let first = p.at;
-    let second = q.at;
-    Step {
-        account,
-        stop,
-        first,
-        second,
-    }
-}
-
-// The run of the third map from z on, of which `step` is the beginning: steps of one account taken together.
-pub fn next_run(
-    choice: Choice,
-    end: u32,
-    tiles1: usize,
-    slots1: &[u32],
-    tiles2: usize,
-    slots2: &[u32],
-    step: Step,
-    z: u32,
-) -> RunEnd
-    requires { StepOf (third_raster (rule_of choice) tiles1 slots1.now tiles2 slots2.now) end
-        tiles1 slots1.now tiles2 slots2.now z step }
-    ensures { RunOf (third_raster (rule_of choice) tiles1 slots1.now tiles2
-        slots2.now) end tiles1 slots1.now tiles2 slots2.now z step.account result }
-{
-    let account = step.account;
-    let mut stop = step.stop;
-    let mut first = step.first;
-    let mut second = step.second;
-    while stop < end {
-        let more = next_step(
-            choice, end, tiles1, slots1, tiles2, slots2, first, second, stop,
-        );
-        if more.account != account {
-            return RunEnd { stop, next: more };
+impl<'a> Pair<'a> {
+    // The stretch of the third map from a place on, up to where either map's stretch ends.
+    pub fn step<R: Rule>(self, rule: R, place: Place) -> Step
+        requires { (place.z < self.end) × BothOf self.end self.first.now self.second.now place }
+        ensures { StepBy (R.made rule) self.entry.end self.entry.first.now self.entry.second.now place.z result }
+    {
+        let first = next_piece(self.end, self.first, place.first, place.z);
+        let second = next_piece(self.end, self.second, place.second, place.z);
+        Step {
+            from: place.z,
+            account: rule.keep(first.account, second.account),
+            end: Place {
+                z: first.stop.min(second.stop),
+                first: first.at,
+                second: second.at,
+            },
         }
-        stop = more.stop;
-        first = more.first;
-        second = more.second;
     }
-    RunEnd { stop, next: step }
+
+    // The run of the third map of which `step` is the beginning: steps of one account taken together.
+    pub fn run<R: Rule + Copy>(self, rule: R, step: Step) -> RunEnd
+        requires { StepBy (R.made rule) self.end self.first.now self.second.now step.from step }
+        ensures { RunBy (R.made rule) self.entry.end self.entry.first.now self.entry.second.now step result }
+    {
+        let mut place = step.end;
+        while place.z < self.end {
+            let more = self.step(rule, place);
+            if more.account != step.account {
+                return RunEnd {
+                    stop: place.z,
+                    next: Some(more),
+                };
+            }
+            place = more.end;
+        }
+        RunEnd {
+            stop: place.z,
+            next: None,
+        }
+    }
 }

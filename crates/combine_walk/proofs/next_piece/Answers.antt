@@ -4,9 +4,6 @@ use native.Mathlib.Omega.{arith}
 use Rattle.combine_walk.proofs.Cursor.{stands_over, piece_none, piece_free, piece_on}
 use Rattle.combine_walk.proofs.next_piece.Goals as goal
 
-pub loop-at-init : goal.loop-at-init
-loop-at-init c = c.requires.1
-
 pub loop-at-preserved : goal.loop-at-preserved
 loop-at-preserved c =
     let loop = c.loop-at in
@@ -26,6 +23,3 @@ returns-then-z-stop c =
 
 pub returns : goal.returns
 returns c = piece_none c.loop-at.invariant c.loop-at-test.false c.requires.0
-
-pub bounds-slots-at : goal.bounds-slots-at
-bounds-slots-at c = omega (arith, c.loop-at.invariant.within)
