@@ -4,10 +4,11 @@
 --     front_passes    the words of a list that is accepted pass
 --     front_refused   words that are refused are so whatever stands behind them
 --     clear_passes    words behind them that are clear pass too
+--     front_max       of two such places the farther counts
 --     knows_behind    the three in front of a word tell what is ahead of it; going-behind, so that the pass goes on there
 use mathlib.Core.Path.{◌≡◌, refl, ap, ap₂, sym, ◌∙◌}
 use mathlib.Core.List.{List, [], ◌∷◌}
-use Prim.Native.Nat.{ℕ, zero, suc, ◌+◌, ◌≤◌, ◌<◌}
+use Prim.Native.Nat.{ℕ, zero, suc, ◌+◌, ◌≤◌, ◌<◌, max}
 use native.Mathlib.Decide.{dec_lt}
 use native.Mathlib.Nat.{le_refl}
 use native.Mathlib.Omega.{arith}
@@ -134,3 +135,6 @@ module _ (n : ℕ) where
           beyond (suc zero) h l = absurd (omega arith)
           beyond (suc (suc zero)) h l = absurd (omega arith)
           beyond (suc (suc (suc m))) h l = clear_on m (c m (omega arith) (omega arith)) (c (suc (suc m)) (omega arith) (omega arith)) (c (suc (suc (suc m))) (omega arith) l)
+
+pub front_max : (n : ℕ) (slots : List ℕ) (i j : ℕ) {m : ℕ} → m ≡ max i j → FrontPasses n slots i → FrontPasses n slots j → FrontPasses n slots m
+front_max n slots i j e p q k l = elim (dec_lt k i) [ yes h ↦ p k h | no h ↦ q k (omega (arith, e, l)) ]

@@ -1,6 +1,6 @@
 -- The checks up to the end of a list's head, and the list's.
 --     list_order, -count, -words    checks 1 and 2 decide, or the words do; words-list, of words alone
---     begun_order, -count, -words   so for a head; begun-known, where it is known to pass
+--     begun_refused, begun_words    so for a head; begun_known, where it is known to pass
 --     begun_ready                   behind a head that passes the words may be asked, and are the list's
 use mathlib.Core.Path.{◌≡◌, refl, ap, sym, ◌∙◌}
 use mathlib.Core.List.{List, []}
@@ -11,7 +11,10 @@ use lib.ListN.{length, take}
 use lib.Seq.{length-take-le, take-length}
 use Rattle.basics.proofs.Tests.{test_leb}
 use Rattle.refusal.specs.Refusal.{accepted, order_too_large, count_above_slots}
+use Rattle.refusal.specs.declared.Refusal.{Refusal}
+use Rattle.refusal.specs.Refused.{number}
 use Rattle.refusal.proofs.CheckLaws.{must_on, must_off}
+use Rattle.refusal.proofs.RefusedLaws.{number_some}
 use Rattle.tile.specs.Tile.{highest_order}
 use Rattle.list_check.specs.ListCheck.{words_check, list_check}
 use Rattle.list_check.specs.Pass.{FrontPasses, head, Begun}
@@ -26,16 +29,13 @@ module _ (n t : ℕ) (slots : List ℕ) where
   unfolding list_check
   list_order h = sym (must_off order_too_large _ (test_leb n highest_order) (λ l. omega arith))
 
-  pub begun_order : highest_order < n → Begun n t slots order_too_large
-  begun_order h = begun_off order_too_large (omega arith) (list_order h)
+  pub begun_refused : (r : Refusal) → number r ≡ list_check n t slots → Begun n t slots (number r)
+  begun_refused r e = begun_off (number r) (number_some r) e
 
   module _ (o : n ≤ highest_order) where
     pub list_count : length slots < t → count_above_slots ≡ list_check n t slots
     unfolding list_check
     list_count h = sym (must_on order_too_large _ (test_leb n highest_order) o ∙ must_off count_above_slots _ (test_leb t (length slots)) (λ l. omega arith))
-
-    pub begun_count : length slots < t → Begun n t slots count_above_slots
-    begun_count h = begun_off count_above_slots (omega arith) (list_count h)
 
     module _ (l : t ≤ length slots) where
       pub list_words : words_check n [] (take t slots) ≡ list_check n t slots
@@ -69,3 +69,7 @@ module _ (n : ℕ) (ws : List ℕ) (o : n ≤ highest_order) where
     front = λ y k. rw (take-length ws) (λ j q. p j (omega arith));
     rest = λ y. list_words n (length ws) ws o (le_refl (length ws));
   }
+
+-- the words by themselves
+pub words_given : (n t : ℕ) (slots : List ℕ) {ws : List ℕ} → n ≤ highest_order → t ≤ length slots → ws ≡ take t slots → words_check n [] ws ≡ list_check n t slots
+words_given n t slots o l e = rw e (list_words n t slots o l)

@@ -6,6 +6,7 @@
 --     Accepts      list checking accepts just the valid lists
 --     FrontLaws    the words that pass, from the front on
 --     HeadLaws     the checks up to the end of a list's head, and the list's
+--     TreeLaws     what is known of a checked list
 pub mod LastOfFour
 pub mod FourWords
 pub mod OneWord
@@ -13,3 +14,4 @@ pub mod PassLaws
 pub mod Accepts
 pub mod FrontLaws
 pub mod HeadLaws
+pub mod TreeLaws

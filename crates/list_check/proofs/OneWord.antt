@@ -18,6 +18,11 @@ use lib.Dec.{leb, ltb}
 use Rattle.basics.proofs.Tests.{Test, test_leb, test_and}
 use Rattle.refusal.specs.Refusal.{accepted, high_bits_set, size_above_order, corner_invalid, account_zero, tiles_overlap, siblings_unmerged}
 use Rattle.refusal.specs.Checks.{must, or_else}
+use Rattle.refusal.specs.declared.Refusal.{Refusal}
+use Rattle.refusal.specs.declared.Refusal.TheVariants.{SiblingsUnmerged}
+use Rattle.refusal.specs.Refused.{number}
+use Rattle.refusal.proofs.RefusedLaws.{number_some}
+use Rattle.std.specs.Prelude.{Ok, Err}
 use Rattle.refusal.proofs.CheckLaws.{must_on, must_off, must_pass, must_inv, else_on, else_off, else_else, else_must}
 use Rattle.tile.specs.declared.Tile.{Tile}
 use Rattle.tile.specs.Tile.{stop, tile_of, word_limit, highest_order}
@@ -132,9 +137,11 @@ module _ (n : ℕ) (seen : List Tile) (w : ℕ) (a : Ahead) (g : Knows a seen) (
   sound_is : x ≡ sound_check n (ended seen) w
   sound_is = s ∙ ap (λ (l : ℕ). sound_check n l w) g.stop
 
-  pub step_bad : (x ≡ accepted → ⊥) → Judges n seen w (record { refusal = x; ahead = a })
+  pub step_bad : (r : Refusal) → number r ≡ x → Judges n seen w (Err r)
   unfolding word_check
-  step_bad z = record { refusal = sound_is ∙ sym (else_off _ _ (λ y. z (sound_is ∙ y))); ahead = λ y. absurd (z y) }
+  step_bad r e =
+      let h = number_some r in
+      record { refusal = e ∙ sound_is ∙ sym (else_off _ _ (λ y. omega (arith, h, e, sound_is, y))); ahead = record {} }
 
   module _ (z : x ≡ accepted) where
     pub step_sound : Sound n (ended seen) (tile_of w)
@@ -144,10 +151,10 @@ module _ (n : ℕ) (seen : List Tile) (w : ℕ) (a : Ahead) (g : Knows a seen) (
     unfolding word_check
     left = else_on _ _ (sym sound_is ∙ z)
 
-    pub step_last : (b : Bool) → b ≡ last_of_four seen (tile_of w) → b ≡ true → Judges n seen w (record { refusal = siblings_unmerged; ahead = a })
+    pub step_last : (b : Bool) → b ≡ last_of_four seen (tile_of w) → b ≡ true → Judges n seen w (Err SiblingsUnmerged)
     unfolding must
-    step_last b e f = record { refusal = sym (left ∙ rw (← e, f)); ahead = λ y. absurd (omega arith) }
+    step_last b e f = record { refusal = sym (left ∙ rw (← e, f)); ahead = record {} }
 
-    pub step_good : (b : Bool) → b ≡ last_of_four seen (tile_of w) → b ≡ false → (d : ℕ) → d ≡ stop (tile_of w) → Judges n seen w (record { refusal = accepted; ahead = record { stop = d; first = a.second; second = a.third; third = w } })
+    pub step_good : (b : Bool) → b ≡ last_of_four seen (tile_of w) → b ≡ false → (d : ℕ) → d ≡ stop (tile_of w) → Judges n seen w (Ok (record { stop = d; first = a.second; second = a.third; third = w }))
     unfolding must
-    step_good b e f d ed = record { refusal = sym (left ∙ rw (← e, f)); ahead = λ y. next_knows g step_sound ed }
+    step_good b e f d ed = record { refusal = sym (left ∙ rw (← e, f)); ahead = next_knows g step_sound ed }

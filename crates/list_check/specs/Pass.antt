@@ -13,12 +13,13 @@
 --                              none, order and count are good; a list that ends with its head is accepted; of any other
 --                              the head passes, and the words decide
 -- Not here: what is refused (`ListCheck`), which does not speak of these.
-use Rattle.std.specs.Prelude.{◌≡◌, List, [], ◌∷◌, ℕ, zero, suc, ◌≤◌, ◌<◌, length, take, drop, get_or}
+use Rattle.std.specs.Prelude.{◌≡◌, Result, IfOk, List, [], ◌∷◌, ℕ, zero, suc, ◌≤◌, ◌<◌, length, take, drop, get_or}
+use Rattle.refusal.specs.declared.Refusal.{Refusal}
 use Rattle.refusal.specs.Refusal.{accepted}
+use Rattle.refusal.specs.Refused.{said}
 use Rattle.tile.specs.declared.Tile.{Tile}
 use Rattle.tile.specs.Tile.{tile_of, highest_order}
 use Rattle.list_check.specs.declared.Ahead.{Ahead}
-use Rattle.list_check.specs.declared.Judged.{Judged}
 use Rattle.list_check.specs.ListCheck.{ended, word_check, words_check, list_check}
 
 abbrev pub Rises : List Tile → Type 0
@@ -32,9 +33,9 @@ pub record Knows (a : Ahead) (seen : List Tile) : Type 0 where
   pub third : tile_of a.third ≡ get_or seen 0 (tile_of 0)
   pub rises : Rises seen
 
-pub record Judges (n : ℕ) (seen : List Tile) (w : ℕ) (r : Judged) : Type 0 where
-  pub refusal : r.refusal ≡ word_check n seen w accepted
-  pub ahead : r.refusal ≡ accepted → Knows r.ahead (tile_of w ∷ seen)
+pub record Judges (n : ℕ) (seen : List Tile) (w : ℕ) (r : Result Ahead Refusal) : Type 0 where
+  pub refusal : said r ≡ word_check n seen w accepted
+  pub ahead : IfOk r (λ a. Knows a (tile_of w ∷ seen))
 
 pub record Going (n : ℕ) (ws : List ℕ) (x i : ℕ) (a : Ahead) : Type 0 where
   pub seen : List Tile

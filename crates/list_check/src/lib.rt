@@ -3,14 +3,20 @@
 // clear, and those behind are checked word by word again.
 #![tactic(auto)]
 
-ghost use Rattle.std.specs.Prelude.{◌≡◌, List, [], ℕ, ◌≤◌, length, take};
+ghost use Rattle.std.specs.Prelude.{◌≡◌, List, [], ℕ, ◌≤◌, length, take, IfOk, MatchResult};
 ghost use Rattle.basics.specs.Test.{Test};
 ghost use Rattle.refusal.specs.Refusal.{accepted};
+ghost use Rattle.refusal.specs.Refused.{number, said};
 ghost use Rattle.tile.specs.declared.Tile.{Tile};
 ghost use Rattle.tile.specs.Tile.{tile_of, highest_order};
 ghost use Rattle.quadtree.specs.Valid.{Sound};
 ghost use Rattle.list_check.specs.ListCheck.{last_of_four, ended, sound_check, words_check, list_check};
 ghost use Rattle.list_check.specs.Pass.{Knows, Judges, Going, seen_at, FrontPasses, head, Begun};
+
+mod checked;
+
+pub use checked::Quadtree;
+use refusal::{Checked, Refusal};
 
 // How many words are in a list's head, which is checked in place. The compiler unrolls a loop of so many, and of no
 // more.
@@ -21,7 +27,7 @@ const FEW: usize = 16;
 
 // What the pass keeps of the tiles ahead: where the last one ends, and the words of the last three, which are 0 where
 // there is none.
-#[derive(Clone, Copy)]
+#[derive(Clone, Copy, Debug, PartialEq, Eq)]
 pub struct Ahead {
     pub stop: u32,
     pub first: u32,
@@ -29,22 +35,65 @@ pub struct Ahead {
     pub third: u32,
 }
 
-// What a step says of a word: its refusal, or that it is accepted and what is ahead of the next word.
-#[derive(Clone, Copy)]
-pub struct Judged {
-    pub refusal: u32,
-    pub ahead: Ahead,
-}
+impl Ahead {
+    // Nothing is ahead of the first word.
+    pub fn start() -> Ahead
+        ensures { Knows result [] }
+    {
+        Ahead {
+            stop: 0,
+            first: 0,
+            second: 0,
+            third: 0,
+        }
+    }
 
-// Nothing is ahead of the first word.
-pub fn start() -> Ahead
-    ensures { Knows result [] }
-{
-    Ahead {
-        stop: 0,
-        first: 0,
-        second: 0,
-        third: 0,
+    // What is ahead of the word at i: the three words in front of it.
+    fn of(words: &[u32], i: usize) -> Ahead
+        requires { (3 ≤ i) × (i ≤ length words.now) }
+        ensures { (n : ℕ) → FrontPasses n words.now i → Knows result (seen_at words.now i) }
+    {
+        let third = words[i - 1];
+        Ahead {
+            stop: tile::stop(third),
+            first: words[i - 3],
+            second: words[i - 2],
+            third,
+        }
+    }
+
+    // The word behind the tiles that `self` tells of: one step of the pass, also for a reader that has no list yet. It
+    // answers what is ahead of the next word.
+    pub fn step(self, order: u32, word: u32) -> Result<Ahead, Refusal>
+        requires { order ≤ highest_order }
+        ensures { (seen : List Tile) → Knows self seen → Judges order seen word result }
+    {
+        sound(order, self.stop, word)?;
+        if self.last_of_four(word) {
+            return Err(Refusal::SiblingsUnmerged);
+        }
+        Ok(Ahead {
+            stop: tile::stop(word),
+            first: self.second,
+            second: self.third,
+            third: word,
+        })
+    }
+
+    // Whether a sound word is the last of four siblings, of which the three words ahead are the others: they differ in
+    // nothing but the corner, and there by less than their block.
+    fn last_of_four(self, word: u32) -> bool
+        ensures { (n : ℕ) (seen : List Tile) → Knows self seen → Sound n (ended seen) (tile_of word) →
+            result ≡ last_of_four seen (tile_of word) }
+    {
+        let apart = (self.first ^ self.second) | (self.first ^ self.third) | (self.first ^ word);
+        if tile::account(apart) != 0 {
+            return false;
+        }
+        if tile::size(apart) != 0 {
+            return false;
+        }
+        tile::corner(apart) / 4 < tile::area(tile::size(word))
     }
 }
 
@@ -72,121 +121,52 @@ fn plain(order: u32, stop: u32, word: u32) -> bool
 
 // The first of checks 11 to 15 that the word breaks, where it breaks one of them, wherever the tile ahead of it ends.
 // Sizes are compared by area, which `plain` has computed too, so that the compiler computes it once.
-fn broken(order: u32, word: u32) -> u32
+fn broken(order: u32, word: u32) -> Refusal
     requires { order ≤ highest_order }
-    ensures { (lo : ℕ) → (sound_check order lo word ≡ accepted → ⊥) → result ≡ sound_check order lo word }
+    ensures { (lo : ℕ) → (sound_check order lo word ≡ accepted → ⊥) → number result ≡ sound_check order lo word }
 {
     if tile::WORD_LIMIT <= word {
-        return refusal::HIGH_BITS_SET;
+        return Refusal::HighBitsSet;
     }
     let area = tile::area(tile::size(word));
     let limit = tile::area(order);
     if limit < area {
-        return refusal::SIZE_ABOVE_ORDER;
+        return Refusal::SizeAboveOrder;
     }
     let corner = tile::corner(word);
     if limit <= corner {
-        return refusal::CORNER_INVALID;
+        return Refusal::CornerInvalid;
     }
     if corner % area != 0 {
-        return refusal::CORNER_INVALID;
+        return Refusal::CornerInvalid;
     }
     if tile::account(word) == 0 {
-        return refusal::ACCOUNT_ZERO;
+        return Refusal::AccountZero;
     }
-    refusal::TILES_OVERLAP
+    Refusal::TilesOverlap
 }
 
 // The first of checks 11 to 15 that the word breaks, where the tile ahead of it ends at `stop`.
-fn sound(order: u32, stop: u32, word: u32) -> u32
+fn sound(order: u32, stop: u32, word: u32) -> Checked
     requires { order ≤ highest_order }
-    ensures { result ≡ sound_check order stop word }
+    ensures { said result ≡ sound_check order stop word }
 {
     if plain(order, stop, word) {
-        return refusal::ACCEPTED;
+        return Ok(());
     }
-    broken(order, word)
+    Err(broken(order, word))
 }
 
-// Whether a sound word is the last of four siblings, of which the three words ahead are the others: they differ in
-// nothing but the corner, and there by less than their block.
-fn last_of_four(ahead: Ahead, word: u32) -> bool
-    ensures { (n : ℕ) (seen : List Tile) → Knows ahead seen → Sound n (ended seen) (tile_of word) →
-        result ≡ last_of_four seen (tile_of word) }
-{
-    let first = ahead.first;
-    let second = ahead.second;
-    let third = ahead.third;
-    let apart = (first ^ second) | (first ^ third) | (first ^ word);
-    if tile::account(apart) != 0 {
-        return false;
-    }
-    if tile::size(apart) != 0 {
-        return false;
-    }
-    tile::corner(apart) / 4 < tile::area(tile::size(word))
-}
-
-// The word behind the tiles that `ahead` tells of: one step of the pass, also for a reader that has no list yet.
-pub fn step(order: u32, ahead: Ahead, word: u32) -> Judged
+// The words in turn, behind the tiles that `begin` tells of.
+fn exact(order: u32, begin: Ahead, words: &[u32]) -> Checked
     requires { order ≤ highest_order }
-    ensures { (seen : List Tile) → Knows ahead seen → Judges order seen word result }
-{
-    let stop = ahead.stop;
-    let refusal = sound(order, stop, word);
-    if refusal != refusal::ACCEPTED {
-        return Judged { refusal, ahead };
-    }
-    if last_of_four(ahead, word) {
-        return Judged {
-            refusal: refusal::SIBLINGS_UNMERGED,
-            ahead,
-        };
-    }
-    let second = ahead.second;
-    let third = ahead.third;
-    Judged {
-        refusal: refusal::ACCEPTED,
-        ahead: Ahead {
-            stop: tile::stop(word),
-            first: second,
-            second: third,
-            third: word,
-        },
-    }
-}
-
-// The words from `from` up to `to` in turn, behind the tiles that `begin` tells of.
-fn exact(order: u32, begin: Ahead, from: usize, to: usize, slots: &[u32]) -> u32
-    requires { (order ≤ highest_order) × (from ≤ to) × (to ≤ length slots.now) }
-    ensures { (x : ℕ) → Going order (take to slots.now) x from begin → result ≡ x }
+    ensures { (x : ℕ) → Going order words.now x 0 begin → said result ≡ x }
 {
     let mut ahead = begin;
-    let mut i = from;
-    while i < to {
-        let judged = step(order, ahead, slots[i]);
-        let refusal = judged.refusal;
-        if refusal != refusal::ACCEPTED {
-            return refusal;
-        }
-        ahead = judged.ahead;
-        i += 1;
+    for word in words {
+        ahead = ahead.step(order, *word)?;
     }
-    refusal::ACCEPTED
-}
-
-// What is ahead of the word at i: the three words in front of it.
-fn ahead_of(i: usize, slots: &[u32]) -> Ahead
-    requires { (3 ≤ i) × (i ≤ length slots.now) }
-    ensures { (n : ℕ) → FrontPasses n slots.now i → Knows result (seen_at slots.now i) }
-{
-    let third = slots[i - 1];
-    Ahead {
-        stop: tile::stop(third),
-        first: slots[i - 3],
-        second: slots[i - 2],
-        third,
-    }
+    Ok(())
 }
 
 // How many words of a list pass, as far as the flat pass tells, where the head does.
@@ -204,76 +184,65 @@ fn flat_upto(order: u32, words: &[u32]) -> usize
         tiles - list_flat::BEHIND,
         words,
     );
-    if clear < HEAD {
-        return HEAD;
-    }
-    clear
+    clear.max(HEAD)
 }
 
-// How many of a list's words are in its head.
-fn head_of(tiles: usize) -> usize
-    ensures { (result ≤ tiles) × (tiles ≤ head → result ≡ tiles) × (head ≤ tiles → result ≡ head) }
+// Checks 1 and 2: the words of a list, where its order is a bed's and its count is not above the slots.
+fn words_of(order: u32, tiles: usize, slots: &[u32]) -> Result<&[u32], Refusal>
+    ensures { MatchResult result
+        (λ words. (order ≤ highest_order) × (tiles ≤ length slots.now) × (words.now ≡ take tiles slots.now))
+        (λ refusal. number refusal ≡ list_check order tiles slots.now) }
 {
-    if tiles < HEAD {
-        return tiles;
+    if tile::HIGHEST_ORDER < order {
+        return Err(Refusal::OrderTooLarge);
     }
-    HEAD
+    if slots.len() < tiles {
+        return Err(Refusal::CountAboveSlots);
+    }
+    Ok(&slots[..tiles])
 }
 
 // Checks 1 and 2, and those of the head: small enough to become part of its callers, so that short lists, and long ones
 // that are refused near the front, are spared a call.
-pub fn check_head(order: u32, tiles: usize, slots: &[u32]) -> u32
-    ensures { Begun order tiles slots.now result }
+pub fn check_head(order: u32, tiles: usize, slots: &[u32]) -> Checked
+    ensures { Begun order tiles slots.now (said result) }
 {
-    let highest = tile::HIGHEST_ORDER;
-    if highest < order {
-        return refusal::ORDER_TOO_LARGE;
-    }
-    if slots.len() < tiles {
-        return refusal::COUNT_ABOVE_SLOTS;
-    }
-    exact(order, start(), 0, head_of(tiles), slots)
+    let words = words_of(order, tiles, slots)?;
+    exact(order, Ahead::start(), &words[..HEAD.min(tiles)])
 }
 
 // The checks of the head of a list, unless `known` says that all its words pass.
-fn head_number(order: u32, known: usize, words: &[u32]) -> u32
+fn check_unknown(order: u32, known: usize, words: &[u32]) -> Checked
     requires { (order ≤ highest_order) × (known ≤ length words.now) × FrontPasses order words.now known }
-    ensures { Begun order (length words.now) words.now result }
+    ensures { Begun order (length words.now) words.now (said result) }
 {
     if HEAD <= known {
-        return refusal::ACCEPTED;
+        return Ok(());
     }
     check_head(order, words.len(), words)
 }
 
 // The words of a list, of which the first `known` are known to pass. Callers make the slice for it, which is faster
 // than to hand one on: docs/DECISIONS.md, A19.
-pub fn check_words(order: u32, known: usize, words: &[u32]) -> u32
+pub fn check_words(order: u32, known: usize, words: &[u32]) -> Checked
     requires { (order ≤ highest_order) × (known ≤ length words.now) × FrontPasses order words.now known }
-    ensures { result ≡ words_check order [] words.now }
+    ensures { said result ≡ words_check order [] words.now }
 {
-    let number = head_number(order, known, words);
-    if number != refusal::ACCEPTED {
-        return number;
-    }
+    check_unknown(order, known, words)?;
     if words.len() <= HEAD {
-        return refusal::ACCEPTED;
+        return Ok(());
     }
     let i = flat_upto(order, words);
-    exact(order, ahead_of(i, words), i, words.len(), words)
+    exact(order, Ahead::of(words, i), &words[i..])
 }
 
-// The offered call: checks a list of an order, its tile count and its slots, and answers the first refusal, or that it
-// is accepted.
-pub fn check(order: u32, tiles: usize, slots: &[u32]) -> u32
-    ensures { result ≡ list_check order tiles slots.now }
+// The offered call: checks a list of an order, its tile count and its slots, and answers the first refusal, or the
+// list.
+pub fn check(order: u32, tiles: usize, slots: &[u32]) -> Result<Quadtree<'_>, Refusal>
+    ensures number { said result ≡ list_check order tiles slots.now }
+    ensures tree { IfOk result (λ q. (q.order ≡ order) × (q.words.now ≡ take tiles slots.now)) }
 {
-    if tile::HIGHEST_ORDER < order {
-        return refusal::ORDER_TOO_LARGE;
-    }
-    let lent = slots.len();
-    if lent < tiles {
-        return refusal::COUNT_ABOVE_SLOTS;
-    }
-    check_words(order, 0, &slots[..tiles])
+    let words = words_of(order, tiles, slots)?;
+    check_words(order, 0, words)?;
+    Ok(Quadtree { order, words })
 }

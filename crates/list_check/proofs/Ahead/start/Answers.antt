@@ -1,7 +1,7 @@
 -- No tile is seen.
 use mathlib.Core.Path.{refl}
 use Rattle.list_check.specs.ListCheck.{ended}
-use Rattle.list_check.proofs.start.Goals as goal
+use Rattle.list_check.proofs.Ahead.start.Goals as goal
 
 pub returns : goal.returns
 unfolding ended

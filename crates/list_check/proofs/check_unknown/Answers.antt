@@ -1,7 +1,7 @@
 -- The head is known to pass, or its checks are asked.
 use native.Mathlib.Omega.{arith}
 use Rattle.list_check.proofs.HeadLaws.{begun_known}
-use Rattle.list_check.proofs.head_number.Goals as goal
+use Rattle.list_check.proofs.check_unknown.Goals as goal
 
 pub returns-then-known-ge-HEAD : goal.returns-then-known-ge-HEAD
 returns-then-known-ge-HEAD c =

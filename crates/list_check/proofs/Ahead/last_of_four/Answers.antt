@@ -6,7 +6,7 @@ use Rattle.basics.proofs.Tests.{fails, test_leb, test_map}
 use Rattle.tile.proofs.TileLaws.{tile_of_size}
 use Rattle.list_flat.proofs.FaultLaws.{area_of_lem}
 use Rattle.list_check.proofs.FourWords.{last_by_words}
-use Rattle.list_check.proofs.last_of_four.Goals as goal
+use Rattle.list_check.proofs.Ahead.last_of_four.Goals as goal
 
 pub returns-then-account-ne0 : goal.returns-then-account-ne0
 returns-then-account-ne0 c = λ n seen g s. last_by_words c.args.word g s (fails (λ p. c.if-account-ne0.true (c.account.ensures ∙ p.account)))
