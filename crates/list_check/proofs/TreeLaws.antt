@@ -20,7 +20,7 @@ pub tiles_whole : (ws : List ℕ) → tiles_in (length ws) ws ≡ tiles ws
 unfolding tiles_in
 tiles_whole ws = ap tiles (take-length ws)
 
-module _ {n : ℕ} {ws : List ℕ} (p : list_check n (length ws) ws ≡ accepted) where
+module _ (n : ℕ) (ws : List ℕ) (p : list_check n (length ws) ws ≡ accepted) where
   pub tree_order : n ≤ highest_order
   tree_order = ((list_check_valid n (length ws) ws).0 p).0
 
@@ -30,6 +30,6 @@ module _ {n : ℕ} {ws : List ℕ} (p : list_check n (length ws) ws ≡ accepted
       let P : List Tile → Type 0 = λ ts. Valid n ts in
       subst P (tiles_whole ws) v
 
-pub tree_tiles : {t : ℕ} {slots ws : List ℕ} → ws ≡ take t slots → tiles_in t slots ≡ tiles ws
+pub tree_tiles : (t : ℕ) (slots : List ℕ) {ws : List ℕ} → ws ≡ take t slots → tiles_in t slots ≡ tiles ws
 unfolding tiles_in
-tree_tiles e = ap tiles (sym e)
+tree_tiles t slots e = ap tiles (sym e)
