@@ -5,7 +5,6 @@
 --     digits_by_last      a number below ten is one digit
 --     digits_by_more      any other has its last digit behind the digits of its tenth
 --     digits_none, digits_last, digits_more    the same of digits put
---     digits_end         where digits put end at most
 use mathlib.Core.Path.{◌≡◌, refl}
 use mathlib.Core.List.{List, [], ◌∷◌, ◌++◌}
 use Prim.Native.Nat.{ℕ, zero, suc, ◌+◌, ◌-◌, ◌/◌, ◌%◌, ◌^◌, ◌≤◌, ◌<◌}
@@ -13,8 +12,9 @@ use native.Mathlib.Omega.{arith}
 use lib.ListN.{length, length-append}
 use Rattle.basics.proofs.Tests.{test_leb}
 use Rattle.basics.proofs.ChoiceLaws.{if_yes, if_no, by_if}
-use Rattle.text.specs.PutAt.{PutAt}
-use Rattle.text.proofs.PutAtLaws.{put_at_none, put_at_then}
+use Rattle.text.specs.declared.Writer.{Writer}
+use Rattle.text.specs.Puts.{Puts}
+use Rattle.text.proofs.PutAtLaws.{puts_none, puts_then}
 use Rattle.decimal.specs.Decimal.{digits_by}
 
 pub digits_by_most : (k n : ℕ) → length (digits_by k n) ≤ k
@@ -49,15 +49,12 @@ unfolding digits_by
 digits_by_more zero n p h = absurd (p refl)
 digits_by_more (suc k) n p h = let e : suc k - 1 ≡ k = omega arith in rw e (if_no _ _ (test_leb (suc n) 10) (λ g. omega arith))
 
-pub digits_end : (k n : ℕ) {at : ℕ} {old : List ℕ} {end : ℕ} {new : List ℕ} → PutAt (digits_by k n) at old end new → end ≤ at + k
-digits_end k n w = omega (arith, w.stop, digits_by_most k n)
+pub digits_none : (k n : ℕ) (writer : Writer) → k ≡ 0 → Puts (digits_by k n) writer writer
+digits_none k n writer e = rw (digits_by_none k n e) (puts_none writer)
 
-pub digits_none : (k n at : ℕ) (out : List ℕ) → k ≡ 0 → PutAt (digits_by k n) at out at out
-digits_none k n at out e = rw (digits_by_none k n e) (put_at_none at out)
-
-module _ (k n : ℕ) (p : k ≡ 0 → ⊥) {d at : ℕ} {old : List ℕ} {end : ℕ} {new : List ℕ} where
-  pub digits_last : n < 10 → d ≡ 48 + n → PutAt (d ∷ []) at old end new → PutAt (digits_by k n) at old end new
+module _ (k n : ℕ) (p : k ≡ 0 → ⊥) {d : ℕ} {old new : Writer} where
+  pub digits_last : n < 10 → d ≡ 48 + n → Puts (d ∷ []) old new → Puts (digits_by k n) old new
   digits_last h e w = rw (digits_by_last k n p h) (rw e at w)
 
-  pub digits_more : {mid : ℕ} {half : List ℕ} → 10 ≤ n → d ≡ 48 + n % 10 → PutAt (digits_by (k - 1) (n / 10)) at old mid half → PutAt (d ∷ []) mid half end new → PutAt (digits_by k n) at old end new
-  digits_more h e v w = rw (digits_by_more k n p h) (put_at_then v (rw e at w))
+  pub digits_more : {half : Writer} → 10 ≤ n → d ≡ 48 + n % 10 → Puts (digits_by (k - 1) (n / 10)) old half → Puts (d ∷ []) half new → Puts (digits_by k n) old new
+  digits_more h e v w = rw (digits_by_more k n p h) (puts_then v (rw e at w))

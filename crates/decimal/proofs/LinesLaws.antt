@@ -7,8 +7,9 @@ use mathlib.Core.List.{List, [], ◌∷◌, ◌++◌, append_assoc}
 use Prim.Native.Nat.{ℕ, ◌+◌, ◌≤◌}
 use native.Mathlib.Omega.{arith}
 use lib.ListN.{length, length-append}
-use Rattle.text.specs.PutAt.{PutAt}
-use Rattle.text.proofs.PutAtLaws.{put_at_then}
+use Rattle.text.specs.declared.Writer.{Writer}
+use Rattle.text.specs.Puts.{Puts}
+use Rattle.text.proofs.PutAtLaws.{puts_then}
 use Rattle.decimal.specs.Decimal.{digits_most, digits}
 use Rattle.decimal.specs.Lines.{line_feed, triple_most, pair_line, triple_line}
 use Rattle.decimal.proofs.DecimalLaws.{digits_by_most}
@@ -23,6 +24,6 @@ pub triple_line_most : (a b c : ℕ) → length (triple_line a b c) ≤ triple_m
 triple_line_most a b c =
     omega (arith, triple_line_length a b c, digits_by_most digits_most a, digits_by_most digits_most b, digits_by_most digits_most c)
 
-pub pair_put : (v : List ℕ) (m : ℕ) (w : List ℕ) (n : ℕ) {at : ℕ} {old : List ℕ} {p : ℕ} {one : List ℕ} {q : ℕ} {two : List ℕ} {end : ℕ} {new : List ℕ} →
-    PutAt (v ++ digits m) at old p one → PutAt (w ++ digits n) p one q two → PutAt (line_feed ∷ []) q two end new → PutAt (pair_line v m w n) at old end new
-pair_put v m w n x y z = simp append_assoc at (put_at_then x (put_at_then y z))
+pub pair_put : (v : List ℕ) (m : ℕ) (w : List ℕ) (n : ℕ) {old one two new : Writer} →
+    Puts (v ++ digits m) old one → Puts (w ++ digits n) one two → Puts (line_feed ∷ []) two new → Puts (pair_line v m w n) old new
+pair_put v m w n x y z = simp append_assoc at (puts_then x (puts_then y z))

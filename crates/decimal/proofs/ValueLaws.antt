@@ -1,7 +1,7 @@
 -- Laws of digits read one after the other.
 --     digit_low, digit_high      where a digit's byte lies; digit-is, it is one
 --     both_digits                a digit ahead of digits only, taken apart
---     only_end, only_not, only_next    whether the bytes from a place on are digits only
+--     only_all                   asked of each byte of a list
 --     value_end, value_next      the number with the bytes from a place on written behind it
 --     nines_grow, -most, -longer, -step    numbers with nines behind them
 --     value_most                 no digits make a larger number than nines
@@ -15,6 +15,8 @@ use native.Mathlib.Numerals.{add-one}
 use lib.ListN.{length, drop, get_or, drop_of_length-le}
 use lib.Seq.{drop-cons}
 use borrow.Author.Tests.{le-leb}
+use Rattle.std.specs.List.{list_all}
+use Rattle.std.specs.Char.{is_ascii_digit}
 use Rattle.basics.proofs.Tests.{Test, test_leb, test_and, told_true}
 use Rattle.decimal.specs.Value.{zero_digit, nine_digit, is_digit, digits_only, value_from}
 use Rattle.decimal.specs.Nines.{nines}
@@ -41,11 +43,12 @@ pub both_digits : (b : ℕ) (bs : List ℕ) → digits_only (b ∷ bs) ≡ true 
 unfolding digits_only
 both_digits b bs e = both (is_digit b) (digits_only bs) e
 
-module _ (bs : List ℕ) (i : ℕ) where
-  pub only_end : length bs ≤ i → digits_only (drop i bs) ≡ true
-  unfolding digits_only
-  only_end h = rw (drop_of_length-le bs h) refl
+pub only_all : (bs : List ℕ) → list_all is_ascii_digit bs ≡ digits_only bs
+unfolding digits_only is_digit
+only_all [] = refl
+only_all (b ∷ bs) = rw (only_all bs) refl
 
+module _ (bs : List ℕ) (i : ℕ) where
   pub value_end : (v : ℕ) → length bs ≤ i → value_from v (drop i bs) ≡ v
   unfolding value_from
   value_end v h = rw (drop_of_length-le bs h) refl
@@ -54,12 +57,6 @@ module _ (bs : List ℕ) (i : ℕ) where
     only_at : digits_only (drop i bs) ≡ is_digit (get_or bs i 0) && digits_only (drop (i + 1) bs)
     unfolding digits_only
     only_at = rw (add-one i, drop-cons bs i 0 h) refl
-
-    pub only_not : is_digit (get_or bs i 0) ≡ false → digits_only (drop i bs) ≡ false
-    only_not e = only_at ∙ rw e refl
-
-    pub only_next : is_digit (get_or bs i 0) ≡ true → digits_only (drop i bs) ≡ digits_only (drop (i + 1) bs)
-    only_next e = only_at ∙ rw e refl
 
     pub only_both : digits_only (drop i bs) ≡ true → (is_digit (get_or bs i 0) ≡ true) × (digits_only (drop (i + 1) bs) ≡ true)
     only_both e = both (is_digit (get_or bs i 0)) (digits_only (drop (i + 1) bs)) (sym only_at ∙ e)

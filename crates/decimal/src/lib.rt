@@ -2,12 +2,15 @@
 // And digits read as a number.
 #![tactic(auto)]
 
-ghost use Rattle.std.specs.Prelude.{◌≡◌, true, ◌++◌, ◌+◌, ◌-◌, ◌^◌, ◌<◌, length};
-ghost use Rattle.text.specs.PutAt.{PutAt, count_limit};
+ghost use Rattle.std.specs.Prelude.{◌≡◌, true, ◌++◌, ◌+◌, ◌^◌, ◌<◌, length};
+ghost use Rattle.text.specs.PutAt.{count_limit};
+ghost use Rattle.text.specs.Puts.{Puts};
 ghost use Rattle.decimal.specs.Decimal.{digits_by, digits_most, digits};
 ghost use Rattle.decimal.specs.Lines.{triple_most, pair_line, triple_line};
-ghost use Rattle.decimal.specs.Value.{zero_digit, is_digit, digits_only, value_from};
+ghost use Rattle.decimal.specs.Value.{digits_only, value_from};
 ghost use Rattle.decimal.specs.Nines.{nines};
+
+use text::Writer;
 
 const LINE_FEED: u8 = b'\n';
 
@@ -23,88 +26,63 @@ pub fn digit(d: usize) -> u8
 }
 
 // Puts the last digits of n, at most `places` of them.
-fn put_digits(out: &mut [u8], at: usize, places: usize, n: usize) -> usize
-    requires { at + places < count_limit }
-    ensures { PutAt (digits_by places n) at out.old result out.new }
+fn put_digits(writer: &mut Writer<'_>, places: usize, n: usize)
+    requires { writer.old.at + places < count_limit }
+    ensures { Puts (digits_by places n) writer.old writer.new }
 {
     if places == 0 {
-        return at;
+        return;
     }
     if n < 10 {
-        return text::put(out, at, digit(n));
+        return writer.put(digit(n));
     }
-    let last = put_digits(out, at, places - 1, n / 10);
-    text::put(out, last, digit(n % 10))
+    put_digits(writer, places - 1, n / 10);
+    writer.put(digit(n % 10));
 }
 
 // Puts a number in decimal.
-pub fn put_number(out: &mut [u8], at: usize, n: usize) -> usize
-    requires { at + digits_most < count_limit }
-    ensures { PutAt (digits n) at out.old result out.new }
+pub fn put_number(writer: &mut Writer<'_>, n: usize)
+    requires { writer.old.at + digits_most < count_limit }
+    ensures { Puts (digits n) writer.old writer.new }
 {
-    put_digits(out, at, DIGITS_MOST, n)
+    put_digits(writer, DIGITS_MOST, n);
 }
 
 // Puts a byte string and a number behind it.
-fn put_field(out: &mut [u8], at: usize, ahead: &[u8], n: usize) -> usize
-    requires { at + length ahead.now + digits_most < count_limit }
-    ensures { PutAt (ahead.now ++ digits n) at out.old result out.new }
+fn put_field(writer: &mut Writer<'_>, ahead: &[u8], n: usize)
+    requires { writer.old.at + length ahead.now + digits_most < count_limit }
+    ensures { Puts (ahead.now ++ digits n) writer.old writer.new }
 {
-    let p = text::put_all(out, at, ahead);
-    put_number(out, p, n)
+    writer.put_all(ahead);
+    put_number(writer, n);
 }
 
 // Puts a line of two numbers, each behind a byte string.
-pub fn put_pair(out: &mut [u8], at: usize, first: &[u8], m: usize, second: &[u8], n: usize) -> usize
-    requires { at + length first.now + length second.now + triple_most < count_limit }
-    ensures { PutAt (pair_line first.now m second.now n) at out.old result
-        out.new }
+pub fn put_pair(writer: &mut Writer<'_>, first: &[u8], m: usize, second: &[u8], n: usize)
+    requires { writer.old.at + length first.now + length second.now + triple_most < count_limit }
+    ensures { Puts (pair_line first.now m second.now n) writer.old writer.new }
 {
-    let p = put_field(out, at, first, m);
-    let q = put_field(out, p, second, n);
-    text::put(out, q, LINE_FEED)
+    put_field(writer, first, m);
+    put_field(writer, second, n);
+    writer.put(LINE_FEED);
 }
 
 // Puts a line of three numbers, with a space between them.
-pub fn put_triple(out: &mut [u8], at: usize, a: usize, b: usize, c: usize) -> usize
-    requires { at + triple_most < count_limit }
-    ensures { PutAt (triple_line a b c) at out.old result out.new }
+pub fn put_triple(writer: &mut Writer<'_>, a: usize, b: usize, c: usize)
+    requires { writer.old.at + triple_most < count_limit }
+    ensures { Puts (triple_line a b c) writer.old writer.new }
 {
-    let p = put_number(out, at, a);
-    let q = put_field(out, p, b" ", b);
-    let s = put_field(out, q, b" ", c);
-    text::put(out, s, LINE_FEED)
-}
-
-fn is_digit(byte: u8) -> bool
-    ensures { result ≡ is_digit byte }
-{
-    if byte < b'0' {
-        return false;
-    }
-    byte <= b'9'
-}
-
-// The number of a digit.
-fn digit_number(byte: u8) -> u32
-    requires { is_digit byte ≡ true }
-    ensures { result ≡ byte - zero_digit }
-{
-    (byte - b'0') as u32
+    put_number(writer, a);
+    put_field(writer, b" ", b);
+    put_field(writer, b" ", c);
+    writer.put(LINE_FEED);
 }
 
 // Whether each byte is that of a digit.
 pub fn digits_only(bytes: &[u8]) -> bool
     ensures { result ≡ digits_only bytes.now }
 {
-    let mut i = 0;
-    while i < bytes.len() {
-        if !is_digit(bytes[i]) {
-            return false;
-        }
-        i += 1;
-    }
-    true
+    bytes.iter().all(u8::is_ascii_digit)
 }
 
 // The number `ahead` with digits written behind it.
@@ -113,10 +91,8 @@ pub fn value_from(ahead: u32, bytes: &[u8]) -> u32
     ensures { result ≡ value_from ahead bytes.now }
 {
     let mut v = ahead;
-    let mut i = 0;
-    while i < bytes.len() {
-        v = v * 10 + digit_number(bytes[i]);
-        i += 1;
+    for byte in bytes {
+        v = v * 10 + u32::from(*byte - b'0');
     }
     v
 }

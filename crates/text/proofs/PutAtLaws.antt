@@ -1,26 +1,20 @@
 -- Laws of bytes put into a lent buffer.
---     put_at_none      no bytes leave the buffer as it is
---     put_at_count     a byte past the end is counted
---     put_at_one       a byte that fits is put
---     put_at_then      bytes put behind bytes
---     put_at_next      one more byte of a string
+--     put_at_none, put_at_then   no bytes leave the buffer as it is; bytes put behind bytes
+--     puts_none, puts_then       the same of a writer
+--     puts_next                  one more byte of a string
 use mathlib.Core.Path.{◌≡◌, refl, ap, sym, ◌∙◌}
 use mathlib.Core.List.{List, [], ◌∷◌, ◌++◌, append_assoc}
 use Prim.Native.Nat.{ℕ, ◌+◌, ◌-◌, ◌≤◌, ◌<◌}
 use native.Mathlib.Omega.{arith}
 use native.Mathlib.Numerals.{add-one}
-use lib.ListN.{length, take, drop, get_or, set, length-append, length-set, take-append-drop}
-use lib.Seq.{length-take-le, take_at, drop_at, drop-drop, take-suc, set_split}
+use lib.ListN.{length, take, drop, get_or, length-append, take-append-drop}
+use lib.Seq.{length-take-le, take_at, drop_at, drop-drop, take-suc}
+use Rattle.text.specs.declared.Writer.{Writer}
 use Rattle.text.specs.PutAt.{PutAt}
+use Rattle.text.specs.Puts.{Puts}
 
 pub put_at_none : (at : ℕ) (old : List ℕ) → PutAt [] at old at old
 put_at_none at old = record { stop = omega arith; size = refl; put = λ h. sym (take-append-drop at old) }
-
-pub put_at_count : (at b : ℕ) (old : List ℕ) → length old ≤ at → PutAt (b ∷ []) at old (at + 1) old
-put_at_count at b old h = record { stop = refl; size = refl; put = λ g. absurd (omega arith) }
-
-pub put_at_one : (at b : ℕ) (old : List ℕ) → at < length old → PutAt (b ∷ []) at old (at + 1) (set old at b)
-put_at_one at b old h = record { stop = refl; size = length-set old at b; put = λ g. rw (add-one at) (set_split old at b h) }
 
 module _ {xs ys : List ℕ} {at : ℕ} {old : List ℕ} {mid : ℕ} {half : List ℕ} {end : ℕ} {new : List ℕ} where
   pub put_at_then : PutAt xs at old mid half → PutAt ys mid half end new → PutAt (xs ++ ys) at old end new
@@ -39,6 +33,11 @@ module _ {xs ys : List ℕ} {at : ℕ} {old : List ℕ} {mid : ℕ} {half : List
           sym (rw m at (drop-drop (end - mid) mid half)) ∙ rw e (ap (drop (end - mid)) (drop_at (take at old ++ xs) (drop mid old) mid l)) ∙ rw m at (drop-drop (end - mid) mid old) in
           w.put (omega (arith, v.size)) ∙ rw (a, b) (append_assoc (take at old) xs (ys ++ drop end old)) ∙ ap (λ (l : List ℕ). take at old ++ l) (sym (append_assoc xs ys (drop end old)))
 
-pub put_at_next : (bytes : List ℕ) (i : ℕ) {at : ℕ} {old : List ℕ} {mid : ℕ} {half : List ℕ} {end : ℕ} {new : List ℕ} → i < length bytes →
-    PutAt (take i bytes) at old mid half → PutAt (get_or bytes i 0 ∷ []) mid half end new → PutAt (take (i + 1) bytes) at old end new
-put_at_next bytes i h v w = rw (add-one i, take-suc bytes i 0 h) (put_at_then v w)
+pub puts_none : (writer : Writer) → Puts [] writer writer
+puts_none writer = record { same_buffer = refl; put = put_at_none writer.at writer.out.now }
+
+pub puts_then : {xs ys : List ℕ} {old half new : Writer} → Puts xs old half → Puts ys half new → Puts (xs ++ ys) old new
+puts_then v w = record { same_buffer = w.same_buffer ∙ v.same_buffer; put = put_at_then v.put w.put }
+
+pub puts_next : (bytes : List ℕ) (i : ℕ) {old half new : Writer} → i < length bytes → Puts (take i bytes) old half → Puts (get_or bytes i 0 ∷ []) half new → Puts (take (i + 1) bytes) old new
+puts_next bytes i h v w = rw (add-one i, take-suc bytes i 0 h) (puts_then v w)
