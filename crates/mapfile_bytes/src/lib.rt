@@ -1,9 +1,9 @@
-// The layout of a map file, and numbers read from its bytes, high byte first.
+// The layout of a map file, and numbers in its bytes, high byte first.
 #![tactic(auto)]
 
-ghost use Rattle.std.specs.Prelude.{◌≡◌, ◌+◌, ◌*◌, ◌≤◌, length};
+ghost use Rattle.std.specs.Prelude.{◌≡◌, ◌+◌, ◌*◌, ◌/◌, ◌≤◌, ℕ, length, map};
 ghost use Rattle.mapfile_bytes.specs.Layout.{word_length};
-ghost use Rattle.mapfile_bytes.specs.Items.{word_at};
+ghost use Rattle.mapfile_bytes.specs.Items.{word_at, words_at};
 
 // Where the tile count stands: behind the order, which is one byte.
 pub const COUNT_PLACE: usize = 1;
@@ -23,24 +23,29 @@ pub const ENTRY_LENGTH: usize = 1 + WORD_LENGTH;
 // The bytes of a file without tiles: its order, its tile count and its roster count.
 pub const BARE_LENGTH: usize = WORDS_PLACE + ENTRIES_PLACE;
 
-// A byte as a number of 32 bits.
-pub fn wide(x: u8) -> u32
-    ensures { result ≡ x }
-{
-    x as u32
+// A tile word, as a number in a slot or as its bytes in a file.
+pub trait Word {
+    // The number that it is.
+    ghost value: { Self → ℕ };
+
+    fn number(&self) -> u32
+        ensures { result ≡ value self.now };
 }
 
-// A number of 32 bits as a count.
-pub fn long(x: u32) -> usize
-    ensures { result ≡ x }
-{
-    x as usize
+impl Word for u32 {
+    ghost value = { λ w. w };
+
+    fn number(&self) -> u32 {
+        *self
+    }
 }
 
-fn join(a: u8, b: u8, c: u8, d: u8) -> u32
-    ensures { result ≡ ((a * 256 + b) * 256 + c) * 256 + d }
-{
-    ((wide(a) * 256 + wide(b)) * 256 + wide(c)) * 256 + wide(d)
+impl Word for [u8; 4] {
+    ghost value = { λ bytes. word_at bytes 0 };
+
+    fn number(&self) -> u32 {
+        u32::from_be_bytes(*self)
+    }
 }
 
 // The number in the 4 bytes from `p` on.
@@ -48,5 +53,13 @@ pub fn word_at(bytes: &[u8], p: usize) -> u32
     requires { p + word_length ≤ length bytes.now }
     ensures { result ≡ word_at bytes.now p }
 {
-    join(bytes[p], bytes[p + 1], bytes[p + 2], bytes[p + 3])
+    u32::from_be_bytes([bytes[p], bytes[p + 1], bytes[p + 2], bytes[p + 3]])
+}
+
+// The words that whole bytes make, 4 each.
+pub fn words(bytes: &[u8]) -> &[[u8; 4]]
+    ensures { map (λ w. word_at w 0) result.now ≡ words_at (length bytes.now / word_length) bytes.now 0 }
+{
+    let (words, _) = bytes.as_chunks::<WORD_LENGTH>();
+    words
 }

@@ -1,6 +1,6 @@
 -- No bit is set.
 use Rattle.mapfile_roster.proofs.AccountsLaws.{none_in}
-use Rattle.mapfile_roster.proofs.none.Goals as goal
+use Rattle.mapfile_roster.proofs.Accounts.none.Goals as goal
 
 pub returns : goal.returns
 returns c = none_in
