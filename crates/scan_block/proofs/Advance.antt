@@ -26,8 +26,7 @@ use Rattle.quadtree.proofs.Alignment.{area_pos, aligned_unit}
 use Rattle.quadtree.proofs.Shown.{paint_in, paint_out}
 use Rattle.quadtree.proofs.ValidLaws.{quadtree_cong}
 use Rattle.tile.specs.Slots.{tiles}
-use Rattle.scan_gap.specs.Gap.{held, Fits, High, Receives, Pushed}
-use Rattle.scan_gap.specs.declared.Outcome.{Outcome}
+use Rattle.scan_gap.specs.Gap.{held, Fits, High, Receives, Pushed, Outcome}
 use Rattle.scan_gap.proofs.Parts.{held_tiles}
 use Rattle.scan_gap.proofs.Pixel.{behind_high, tile_pushed}
 use Rattle.scan_block.specs.Blocks.{mixed, Site, Built, Advances}

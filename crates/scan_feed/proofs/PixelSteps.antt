@@ -21,8 +21,7 @@ use Rattle.quadtree.specs.Quadtree.{quadtree}
 use Rattle.bed.specs.declared.Kind.{Kind}
 use Rattle.bed.specs.Places.{pixel_at}
 use Rattle.bed.specs.Bed as bed
-use Rattle.scan_gap.specs.Gap.{Fits, Placed}
-use Rattle.scan_gap.specs.declared.Outcome.{Outcome}
+use Rattle.scan_gap.specs.Gap.{Fits, Placed, Outcome}
 use Rattle.scan_gap.proofs.Pixel.{placed_nobody}
 use Rattle.scan_feed.specs.Feeding.{Trails, Stepped}
 use Rattle.scan_feed.proofs.NextPlace.{holds_awaits}

@@ -33,9 +33,8 @@ use Rattle.quadtree.specs.Tiling.{equal_tiles, Between, Apart}
 use Rattle.quadtree.proofs.Merge.{equal_tiles_front, equal_tiles_back, between_quadtree}
 use Rattle.list_push.specs.Merging.{up_to, MergedInto}
 use Rattle.list_push.specs.declared.Top.{Top}
-use Rattle.scan_gap.specs.Gap.{held, Fits, Awaits, Receives, dotted, PlacedOn, Placed, Pushed, Low, High, Moved}
+use Rattle.scan_gap.specs.Gap.{held, Fits, Awaits, Receives, dotted, PlacedOn, Placed, Pushed, Low, High, Moved, Outcome}
 use Rattle.scan_gap.specs.declared.Gap.{Gap}
-use Rattle.scan_gap.specs.declared.Outcome.{Outcome}
 use Rattle.scan_gap.proofs.Parts.{held_tiles, held_length}
 
 pub awaits_free : {n : ℕ} {f : ℕ → ℕ} {z : ℕ} {ts : List Tile} → Awaits n f z ts → f z ≡ 0

@@ -6,6 +6,7 @@
 --                            the last pixel is nobody's
 --     Receives n f c k ts    the same of the block of size k at the corner c, which is nobody's: of each block that has
 --                            its last pixel, the last pixel is nobody's
+--     Outcome, outcome r     both parts after a pixel, and whether the slots were full: there was none for it
 --     dotted f z a           the raster f with the account a on the pixel z
 --     PlacedOn n m g ts us r r says whether m slots are too few for the linear quadtree of g; if they are not, us is
 -- this list, else ts again
@@ -15,7 +16,7 @@
 --     Low s i z, High s b z  the last tile of the first part starts ahead of z; the first tile of the other part does
 --                            not
 --     Moved s t i b z g      the gap moved to the pixel z, and the same words are held
-use Rattle.std.specs.Prelude.{◌≡◌, Bool, true, false, List, [], ◌∷◌, ◌++◌, ℕ, ◌+◌, ◌-◌, ◌^◌, ◌≤◌, ◌<◌, ltb, length, take, drop, get_or}
+use Rattle.std.specs.Prelude.{◌≡◌, Bool, true, false, Result, Ok, Err, List, [], ◌∷◌, ◌++◌, ℕ, ◌+◌, ◌-◌, ◌^◌, ◌≤◌, ◌<◌, ltb, length, take, drop, get_or}
 use Rattle.tile.specs.declared.Tile.{Tile}
 use Rattle.tile.specs.Tile.{stop, tile_of}
 use Rattle.tile.specs.Slots.{tiles}
@@ -24,7 +25,7 @@ use Rattle.quadtree.specs.Quadtree.{quadtree}
 use Rattle.list_push.specs.Merging.{up_to, MergedInto}
 use Rattle.list_push.specs.declared.Top.{Top}
 use Rattle.scan_gap.specs.declared.Gap.{Gap}
-use Rattle.scan_gap.specs.declared.Outcome.{Outcome}
+use Rattle.scan_gap.specs.declared.Full.{Full}
 
 abbrev pub held : List ℕ → ℕ → ℕ → List ℕ
 held s i b = take i s ++ drop b s
@@ -44,6 +45,15 @@ pub record Receives (n : ℕ) (f : ℕ → ℕ) (c k : ℕ) (ts : List Tile) : T
   pub free : Uniform f 0 c (c + 4 ^ k)
   pub last : (j d : ℕ) → Aligned j d → d < c + 4 ^ k → c + 4 ^ k ≤ d + 4 ^ j → d + 4 ^ j ≤ 4 ^ n →
       f (d + 4 ^ j - 1) ≡ 0
+
+pub record Outcome : Type 0 where
+  pub full : Bool
+  pub front : ℕ
+  pub back : ℕ
+
+abbrev pub outcome : Result Gap Full → Outcome
+outcome (Ok g) = record { full = false; front = g.front; back = g.back }
+outcome (Err e) = record { full = true; front = e.gap.front; back = e.gap.back }
 
 abbrev pub dotted : (ℕ → ℕ) → ℕ → ℕ → ℕ → ℕ
 dotted f z a = paint f z (z + 1) a

@@ -1,7 +1,7 @@
 -- One piece moved up: `retreated`.
 use Rattle.scan_gap.proofs.Shifts.{retreated}
 use mathlib.Core.Path.{refl}
-use Rattle.scan_gap.proofs.retreat.Goals as goal
+use Rattle.scan_gap.proofs.Gap.retreat.Goals as goal
 
 pub returns : goal.returns
 returns c =

@@ -1,7 +1,7 @@
 -- One piece moved down: `advanced`.
 use Rattle.scan_gap.proofs.Shifts.{advanced}
 use mathlib.Core.Path.{refl}
-use Rattle.scan_gap.proofs.advance.Goals as goal
+use Rattle.scan_gap.proofs.Gap.advance.Goals as goal
 
 pub returns : goal.returns
 returns c =
