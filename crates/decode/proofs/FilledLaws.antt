@@ -1,6 +1,5 @@
 -- Spans of bytes, rectangles of them and tiles, each put together from the one before.
---     side_word                  a side in a machine word
---     span_none, span_more         an empty span, and one with a byte more
+--     span_filled                a part of the bytes that is filled
 --     rectangle_none, -more      an empty rectangle, and one with a row more
 --     RowFits, row_fits          a row of a square lies in the raster, and its bytes have small positions
 --     Measured, measured         what is taken from a tile: the side of the bed, and the column, row and side of its square
@@ -8,12 +7,14 @@
 --     measured_tile              the square is the tile
 use mathlib.Core.Path.{◌≡◌, refl, ap, sym, ◌∙◌}
 use mathlib.Core.List.{List}
-use Prim.Native.Nat.{ℕ, suc, ◌+◌, ◌*◌, ◌%◌, ◌^◌, ◌≤◌, ◌<◌}
+use Prim.Native.Nat.{ℕ, suc, ◌+◌, ◌*◌, ◌^◌, ◌≤◌, ◌<◌}
 use native.Mathlib.Omega.{arith}
 use native.Mathlib.Decide.{dec_lt}
 use native.Mathlib.Nat.{mul-le-mul_right, pow-le-pow_right}
-use lib.ListN.{length, set, length-set}
-use lib.Seq.{get_or-set_same, get_or-set_other}
+use lib.ListN.{length, replicate}
+use borrow.Rule.Slice.PartMut.{put_mid}
+use Rattle.std.proofs.Common.{rules}
+use Rattle.std.proofs.lemmas.List.{places}
 use Rattle.morton.specs.Morton.{column, row, Square, side_bits}
 use Rattle.morton.proofs.MortonLaws.{column_lt, column_wide, row_wide}
 use Rattle.morton.proofs.Squares.{block_square, square_block, column_room, row_room}
@@ -25,21 +26,16 @@ use Rattle.bed.specs.Places.{place_of}
 use Rattle.bed.proofs.PlaceLaws.{area_sides}
 use Rattle.decode.specs.Filled.{SpanFilled, Within, RectangleFilled, TileFilled}
 
-pub side_word : (k : ℕ) → k ≤ highest_order → 1 * 2 ^ k % 2 ^ 64 ≡ 2 ^ k
-side_word k h = let l : 2 ^ k ≤ 2 ^ highest_order = pow-le-pow_right (omega arith) h in omega arith
-
-pub span_none : (xs : List ℕ) (from a : ℕ) → SpanFilled xs from from a xs
-span_none xs from a = record { long = refl; inside = λ p l h. absurd (omega arith); outside = λ p no. refl }
-
-pub span_more : {xs ys : List ℕ} {from p a : ℕ} → from ≤ p → p < length xs → SpanFilled xs from p a ys → SpanFilled xs from (p + 1) a (set ys p a)
-span_more {xs} {ys} {from} {p} {a} l h r = record {
-  long = length-set ys p a ∙ r.long;
-  inside = λ q ql qh. elim (dec_lt q p) [
-    | yes b ↦ get_or-set_other ys p q a 0 (λ e. omega arith) ∙ r.inside q ql b
-    | no b ↦ let e : q ≡ p = omega arith in rw e (get_or-set_same ys p a 0 (omega (arith, r.long)))
+-- a part of the bytes is filled
+pub span_filled : (xs : List ℕ) (from k m a : ℕ) → from + k ≤ length xs → m ≡ k → SpanFilled xs from (from + k) a (put_mid from m xs (replicate k a))
+span_filled xs from k m a h e = rw e (record {
+  long = search (rules, places);
+  inside = λ p l u. search (rules, places);
+  outside = λ p out. elim (dec_lt p from) [
+    | yes b ↦ search (rules, places)
+    | no b ↦ let c : from + k ≤ p = elim (dec_lt p (from + k)) [ yes d ↦ absurd (out (omega arith) d) | no d ↦ omega arith ] in search (rules, places)
   ];
-  outside = λ q out. get_or-set_other ys p q a 0 (λ e. out (omega arith) (omega arith)) ∙ r.outside q (λ u v. out u (omega arith));
-}
+})
 
 -- a byte between two of one row is in that row
 in_row : (width c r d s : ℕ) → c < width → r * width + c < s * width + d → d ≤ width → s * width ≤ r * width + c → r ≡ s
@@ -108,25 +104,22 @@ rectangle_tile {n} q p = record {
   outside = λ z h out. p.outside (column n z) (row n z) (column_lt n z) (λ w. out (square_covers z q h w));
 }
 
-pub record Measured (n : ℕ) (t : Tile) (w c r s a : ℕ) : Type 0 where
+pub record Measured (n : ℕ) (t : Tile) (w c r s : ℕ) : Type 0 where
   pub width : w ≡ 2 ^ n
   pub west : c ≡ column n t.corner
   pub north : r ≡ row n t.corner
   pub side : s ≡ 2 ^ t.size
-  pub account : a ≡ t.account
 
--- step by step, as code takes them from a word
-pub measured : {n : ℕ} {t : Tile} {w k s z c x r y a : ℕ} → n ≤ highest_order → Quadrant n t → w ≡ 2 ^ n → k ≡ t.size → s ≡ 2 ^ k → z ≡ t.corner → c ≡ column side_bits z → x ≡ c → r ≡ row side_bits z → y ≡ r → a ≡ t.account →
-    Measured n t w x y s a
-measured {n} {t} h q ew ek es ez ec ex er ey ea = record {
+-- as code takes them from a tile
+pub measured : {n : ℕ} {t : Tile} {w c r s : ℕ} → n ≤ highest_order → Quadrant n t → w ≡ 2 ^ n → c ≡ column side_bits t.corner → r ≡ row side_bits t.corner → s ≡ 2 ^ t.size → Measured n t w c r s
+measured {n} {t} h q ew ec er es = record {
   width = ew;
-  west = ex ∙ ec ∙ ap (column side_bits) ez ∙ column_wide n side_bits t.corner h q.inside;
-  north = ey ∙ er ∙ ap (row side_bits) ez ∙ row_wide n side_bits t.corner h q.inside;
-  side = es ∙ ap (λ (k : ℕ). 2 ^ k) ek;
-  account = ea;
+  west = ec ∙ column_wide n side_bits t.corner h q.inside;
+  north = er ∙ row_wide n side_bits t.corner h q.inside;
+  side = es;
 }
 
-module _ {n : ℕ} {t : Tile} {w c r s a : ℕ} (q : Quadrant n t) (m : Measured n t w c r s a) where
+module _ {n : ℕ} {t : Tile} {w c r s : ℕ} (q : Quadrant n t) (m : Measured n t w c r s) where
   pub measured_fits : (len : ℕ) → n ≤ highest_order → len ≡ 4 ^ n → (w ≤ 2 ^ highest_order) × (c + s ≤ w) × (r + s ≤ w) × (len ≡ w * w)
   measured_fits len h l =
       let e = q.aligned.is in
@@ -137,5 +130,5 @@ module _ {n : ℕ} {t : Tile} {w c r s a : ℕ} (q : Quadrant n t) (m : Measured
         rw m.width (l ∙ sym (area_sides n)),
       )
 
-  pub measured_tile : {xs ys : List ℕ} → RectangleFilled w xs c r s s a ys → TileFilled n t xs ys
-  measured_tile p = rectangle_tile q (rw (m.width, m.west, m.north, m.side, m.account) at p)
+  pub measured_tile : {xs ys : List ℕ} → RectangleFilled w xs c r s s t.account ys → TileFilled n t xs ys
+  measured_tile p = rectangle_tile q (rw (m.width, m.west, m.north, m.side) at p)

@@ -5,17 +5,19 @@
 --     filling_next               that tile filled
 --     filling_word               the next tile as the next word of the slots
 --     filling_end                no tile left
-use mathlib.Core.Path.{◌≡◌, refl, sym, ◌∙◌}
+use mathlib.Core.Path.{◌≡◌, refl, sym, ap, ◌∙◌}
 use mathlib.Core.List.Memᴰ
-use mathlib.Core.List.{List, [], ◌∷◌, map}
+use mathlib.Core.List.{List, [], ◌∷◌}
 use Prim.Native.Nat.{ℕ, ◌+◌, ◌^◌, ◌≤◌, ◌<◌}
 use native.Mathlib.Omega.{arith}
 use native.Mathlib.Decide.{dec_lt}
 use native.Mathlib.Numerals.{add-one}
-use lib.ListN.{length, take, drop, get_or}
-use lib.Seq.{drop-cons, drop-length, length-take-le, get_or-take}
+use lib.ListN.{length, drop, get_or, replicate}
+use lib.Seq.{drop-cons, drop-length}
+use Rattle.std.proofs.lemmas.List.{length-replicate, get_or-replicate}
 use Rattle.tile.specs.declared.Tile.{Tile}
 use Rattle.tile.specs.Tile.{stop, tile_of}
+use Rattle.tile.specs.Slots.{tiles}
 use Rattle.quadtree.specs.Raster.{account_at, Quadrant}
 use Rattle.quadtree.specs.Valid.{Valid}
 use Rattle.quadtree.proofs.Alignment.{area_pos}
@@ -25,7 +27,7 @@ use Rattle.quadtree.proofs.ValidLaws.{valid_tiling, tiling_chain}
 use Rattle.bed.specs.declared.Kind.TheVariants.{Rows}
 use Rattle.bed.specs.Places.{place_of, rows}
 use Rattle.bed.proofs.PlaceLaws.{place_of_lt, rows_unique}
-use Rattle.decode.specs.Filled.{SpanFilled, TileFilled}
+use Rattle.decode.specs.Filled.{TileFilled}
 
 -- the bytes show f before lo and 0 from there on, and the tiles left tile f from lo on
 pub record Filling (n : ℕ) (f : ℕ → ℕ) (left : List Tile) (bytes : List ℕ) : Type 0 where
@@ -35,13 +37,13 @@ pub record Filling (n : ℕ) (f : ℕ → ℕ) (left : List Tile) (bytes : List 
   pub clear : (z : ℕ) → z < 4 ^ n → lo ≤ z → get_or bytes (place_of Rows n z) 0 ≡ 0
   pub long : length bytes ≡ 4 ^ n
 
-pub filling_start : {n : ℕ} {ts : List Tile} {xs ys : List ℕ} → Valid n ts → length xs ≡ 4 ^ n → SpanFilled xs 0 (length xs) 0 ys → Filling n (account_at ts) ts ys
-filling_start {n} v e r = record {
+pub filling_start : {n : ℕ} {ts : List Tile} (xs : List ℕ) {ys : List ℕ} → Valid n ts → length xs ≡ 4 ^ n → ys ≡ replicate (length xs) 0 → Filling n (account_at ts) ts ys
+filling_start {n} xs v e r = record {
   lo = 0;
   tiling = valid_tiling v;
   done = λ z h l. absurd (omega arith);
-  clear = λ z h l. r.inside (place_of Rows n z) (omega arith) (omega (arith, place_of_lt Rows n z h));
-  long = r.long ∙ e;
+  clear = λ z h l. rw r (get_or-replicate (length xs) (place_of Rows n z) 0 0 (omega (arith, place_of_lt Rows n z h)));
+  long = ap length r ∙ length-replicate (length xs) 0 ∙ e;
 }
 
 pub filling_first : {n : ℕ} {f : ℕ → ℕ} {t : Tile} {ts : List Tile} {xs : List ℕ} → Filling n f (t ∷ ts) xs → Quadrant n t
@@ -70,15 +72,12 @@ shown n xs {lo = lo} (none l b) done clear z h = elim (dec_lt z lo) [ yes m ↦ 
 pub filling_next : {n : ℕ} {f : ℕ → ℕ} {t : Tile} {ts : List Tile} {xs ys : List ℕ} → Filling n f (t ∷ ts) xs → TileFilled n t xs ys → Filling n f ts ys
 filling_next g b = past g.long g.done g.clear g.tiling b
 
--- of t tiles in slots, those left are from the i-th on
-module _ {n : ℕ} {f : ℕ → ℕ} {xs : List ℕ} (t : ℕ) (slots : List ℕ) (i : ℕ) (room : t ≤ length slots) (g : Filling n f (map tile_of (drop i (take t slots))) xs) where
-  pub filling_word : i < t → Filling n f (tile_of (get_or slots i 0) ∷ map tile_of (drop (i + 1) (take t slots))) xs
-  filling_word h =
-      let l : i < length (take t slots) = omega (arith, length-take-le t slots room) in
-      rw (add-one i) (rw (drop-cons (take t slots) i 0 l, get_or-take t slots i 0 h) at g)
+-- of the tiles of some words, those left are from the i-th on
+module _ {n : ℕ} {f : ℕ → ℕ} {xs : List ℕ} (words : List ℕ) (i : ℕ) (g : Filling n f (tiles (drop i words)) xs) where
+  pub filling_word : i < length words → Filling n f (tile_of (get_or words i 0) ∷ tiles (drop (i + 1) words)) xs
+  filling_word h = rw (add-one i) (rw (drop-cons words i 0 h) at g)
 
-  pub filling_end : t ≤ i → i ≤ t → xs ≡ rows n f
-  filling_end h k =
-      let e : i ≡ length (take t slots) = omega (arith, length-take-le t slots room) in
-      let d = rw (e, drop-length (take t slots)) at g in
+  pub filling_end : i ≡ length words → xs ≡ rows n f
+  filling_end e =
+      let d = rw (e, drop-length words) at g in
       rows_unique n f xs d.long (shown n xs d.tiling d.done d.clear)

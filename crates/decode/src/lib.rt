@@ -3,39 +3,17 @@
 
 ghost use Rattle.std.specs.Prelude.{◌≡◌, ℕ, ◌+◌, ◌*◌, ◌^◌, ◌≤◌, length};
 ghost use Rattle.refusal.specs.Checks.{Gives};
-ghost use Rattle.tile.specs.Tile.{tile_of, highest_order};
-ghost use Rattle.tile.specs.Slots.{tiles_in};
+ghost use Rattle.refusal.specs.Refused.{said};
+ghost use Rattle.tile.specs.Tile.{highest_order};
+ghost use Rattle.tile.specs.Slots.{tiles};
 ghost use Rattle.quadtree.specs.Raster.{account_at, Quadrant};
-ghost use Rattle.quadtree.specs.Valid.{Valid};
 ghost use Rattle.bed.specs.Places.{rows};
 ghost use Rattle.decode.specs.Decode.{decode_of};
-ghost use Rattle.decode.specs.Filled.{SpanFilled, RectangleFilled, TileFilled};
+ghost use Rattle.decode.specs.Filled.{RectangleFilled, TileFilled};
 
-fn wide(x: u32) -> usize
-    ensures { result ≡ x }
-{
-    x as usize
-}
-
-// The pixels along a side of a block, or of a bed.
-fn side(size: u32) -> usize
-    requires { size ≤ highest_order }
-    ensures { result ≡ 2 ^ size }
-{
-    1usize << size
-}
-
-// Sets the bytes from `from` up to `to`.
-fn span(raster: &mut [u8], from: usize, to: usize, account: u8)
-    requires { (from ≤ to) × (to ≤ length raster.old) }
-    ensures { SpanFilled raster.old from to account raster.new }
-{
-    let mut p = from;
-    while p < to {
-        raster[p] = account;
-        p += 1;
-    }
-}
+use list_check::Quadtree;
+use refusal::{Checked, Refusal};
+use tile::Tile;
 
 // Sets a square of a raster whose rows have `width` bytes, row by row.
 fn square(raster: &mut [u8], width: usize, column: usize, row: usize, side: usize, account: u8)
@@ -43,54 +21,49 @@ fn square(raster: &mut [u8], width: usize, column: usize, row: usize, side: usiz
         × (length raster.old ≡ width * width) }
     ensures { RectangleFilled width raster.old column row side side account raster.new }
 {
-    let mut y = 0;
-    while y < side {
+    for y in 0..side {
         let from = (row + y) * width + column;
-        span(raster, from, from + side, account);
-        y += 1;
+        raster[from..from + side].fill(account);
     }
 }
 
-// Sets the pixels of the tile of a word.
-fn paint(order: u32, word: u32, raster: &mut [u8])
-    requires { (order ≤ highest_order) × Quadrant order (tile_of word) × (length raster.old ≡ 4 ^ order) }
-    ensures { TileFilled order (tile_of word) raster.old raster.new }
+// Sets the pixels of a tile.
+fn paint(order: u32, tile: Tile, raster: &mut [u8])
+    requires { (order ≤ highest_order) × Quadrant order tile × (length raster.old ≡ 4 ^ order) }
+    ensures { TileFilled order tile raster.old raster.new }
 {
-    let width = side(order);
-    let side = side(tile::size(word));
-    let corner = tile::corner(word);
-    let column = wide(morton::column_of(corner));
-    let row = wide(morton::row_of(corner));
-    square(raster, width, column, row, side, tile::account(word));
+    let Tile {
+        corner,
+        size,
+        account,
+    } = tile;
+    let width = tile::side(order) as usize;
+    let side = tile::side(size) as usize;
+    let column = morton::column_of(corner) as usize;
+    let row = morton::row_of(corner) as usize;
+    square(raster, width, column, row, side, account);
 }
 
-// Sets each pixel to the account that a valid list shows there: to 0, and then the tiles in turn.
-fn fill(order: u32, tiles: usize, slots: &[u32], raster: &mut [u8])
-    requires { (order ≤ highest_order) × (tiles ≤ length slots.now) × Valid order (tiles_in tiles slots.now)
-        × (length raster.old ≡ 4 ^ order) }
-    ensures { raster.new ≡ rows order (account_at (tiles_in tiles slots.now)) }
+// Sets each pixel to the account that a list shows there: to 0, and then the tiles in turn.
+fn fill(map: Quadtree<'_>, raster: &mut [u8])
+    requires { length raster.old ≡ 4 ^ map.order }
+    ensures { raster.new ≡ rows map.entry.order (account_at (tiles map.entry.words.now)) }
 {
-    let end = raster.len();
-    span(raster, 0, end, 0);
-    let mut i = 0;
-    while i < tiles {
-        paint(order, slots[i], raster);
-        i += 1;
+    raster.fill(0);
+    for word in map.words {
+        paint(map.order, Tile::from(*word), raster);
     }
 }
 
 // The offered call: writes the account of each pixel to the raster, row after row. A list that list checking refuses is
 // refused, and so is a raster of another length than the bed has pixels; then no byte changes.
-pub fn decode(order: u32, tiles: usize, slots: &[u32], raster: &mut [u8]) -> u32
-    ensures { Gives result raster.new (decode_of order tiles slots.now raster.old) }
+pub fn decode(order: u32, tiles: usize, slots: &[u32], raster: &mut [u8]) -> Checked
+    ensures { Gives (said result) raster.new (decode_of order tiles slots.now raster.old) }
 {
-    let refusal = list_check::check(order, tiles, slots);
-    if refusal != refusal::ACCEPTED {
-        return refusal;
+    let map = list_check::check(order, tiles, slots)?;
+    if raster.len() != tile::area(order) as usize {
+        return Err(Refusal::RasterLength);
     }
-    if raster.len() != wide(tile::area(order)) {
-        return refusal::RASTER_LENGTH;
-    }
-    fill(order, tiles, slots, raster);
-    refusal::ACCEPTED
+    fill(map, raster);
+    Ok(())
 }
