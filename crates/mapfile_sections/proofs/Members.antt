@@ -1,5 +1,5 @@
 -- The set of the accounts that have tiles, word by word, and what its members tell.
---     tiled_start, -on, -end   what is in the set and what is left make the whole, by the words from i on
+--     tiled_on, -end   what is in the set and what is left make the whole, by the words from i on
 --     none_covered             an account that is not in the set covers nothing
 --     accounts_count           somebody's accounts in the set are as many as the roster has entries
 use mathlib.Core.Path.{◌≡◌, refl, ap, sym, ◌∙◌}
@@ -9,23 +9,18 @@ use Prim.Native.Nat.{ℕ, zero, suc, ◌+◌, ◌≤◌, ◌<◌}
 use native.Mathlib.Omega.{arith}
 use native.Mathlib.Numerals.{add-one}
 use lib.Dec.{ltb, eqb}
-use lib.ListN.{length, take, drop, get_or, length-append}
+use lib.ListN.{length, drop, get_or, length-append}
 use lib.Seq.{drop-cons, drop-length}
 use borrow.Author.Tests.{ltb-false}
 use Rattle.basics.specs.Choice.{if}
 use Rattle.tile.specs.declared.Tile.{Tile}
 use Rattle.tile.specs.Tile.{tile_of, highest_account}
-use Rattle.tile.specs.Slots.{tiles_in}
 use Rattle.mapfile_roster.specs.Roster.{covered, roster_from, roster_of}
 use Rattle.mapfile_roster.specs.Accounts.{has, SetOf, count_from, count}
 use Rattle.mapfile_roster.specs.declared.Accounts.{Accounts}
-use Rattle.mapfile_roster.proofs.AccountsLaws.{Growing, growing_start, growing_on, growing_end, covered_head}
+use Rattle.mapfile_roster.proofs.AccountsLaws.{Growing, growing_on, growing_end, covered_head}
 use Rattle.mapfile_sections.specs.OneEntry.{entry_of}
 use Rattle.mapfile_sections.proofs.Passes.{entry_of_count, roster_from_entry}
-
-pub tiled_start : (t : ℕ) (slots : List ℕ) {set : Accounts} → SetOf (λ a. false) set → Growing (λ a. ltb 0 (covered a (tiles_in t slots))) set (λ a. ltb 0 (covered a (map tile_of (drop 0 (take t slots)))))
-unfolding tiles_in
-tiled_start t slots s = growing_start _ s
 
 module _ (ws : List ℕ) (i : ℕ) {all : ℕ → Bool} {set : Accounts} (g : Growing all set (λ a. ltb 0 (covered a (map tile_of (drop i ws))))) where
   pub tiled_on : {more : Accounts} (x w : ℕ) → i < length ws → get_or ws i 0 ≡ w → x ≡ (tile_of w).account → SetOf (λ a. eqb x a || has set a) more → Growing all more (λ a. ltb 0 (covered a (map tile_of (drop (i + 1) ws))))

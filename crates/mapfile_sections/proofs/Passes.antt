@@ -1,5 +1,4 @@
 -- The passes of the writer, turn by turn: what is done and what is left make the whole.
---     covered_start, -on, -end   the pixels of an account, by the words from i on
 --     entry_of_count, -length     an account with pixels has one entry, one without has none
 --     entry_none, entry_one      one step of the roster, without and with an entry
 --     roster_from_entry           the roster from an account on is its entry, if it has one, and the roster behind it
@@ -9,36 +8,22 @@
 --     entries_room               the room that they need
 use mathlib.Core.Path.{◌≡◌, refl, ap, sym, ◌∙◌}
 use mathlib.Core.Bool.{Bool, true, false}
-use mathlib.Core.List.{List, [], ◌∷◌, ◌++◌, map}
-use Prim.Native.Nat.{ℕ, suc, ◌+◌, ◌-◌, ◌*◌, ◌^◌, ◌≤◌, ◌<◌}
+use mathlib.Core.List.{List, [], ◌∷◌, ◌++◌}
+use Prim.Native.Nat.{ℕ, suc, ◌+◌, ◌-◌, ◌*◌, ◌≤◌}
 use native.Mathlib.Omega.{arith}
 use native.Mathlib.Numerals.{add-one}
-use lib.Dec.{ltb, eqb}
-use lib.ListN.{length, take, drop, get_or, set, length-append}
-use lib.Seq.{sets, drop-cons, drop-length}
+use lib.Dec.{ltb}
+use lib.ListN.{length, set, length-append}
+use lib.Seq.{sets}
 use Rattle.basics.specs.Choice.{if}
 use Rattle.basics.proofs.Tests.{test_leb}
 use Rattle.basics.proofs.ChoiceLaws.{if_yes, if_no}
 use Rattle.tile.specs.declared.Tile.{Tile}
-use Rattle.tile.specs.Tile.{tile_of, highest_account}
-use Rattle.tile.specs.Slots.{tiles_in}
+use Rattle.tile.specs.Tile.{highest_account}
 use Rattle.mapfile_roster.specs.Roster.{covered, Entry, roster_from}
 use Rattle.mapfile_sections.specs.OneEntry.{entry_of}
 use Rattle.mapfile_sections.specs.Sections.{word_bytes, entries_bytes}
 use Rattle.mapfile_sections.proofs.Puts.{sets_append}
-
-pub covered_start : (a t : ℕ) (slots : List ℕ) → 0 + covered a (map tile_of (drop 0 (take t slots))) ≡ covered a (tiles_in t slots)
-unfolding tiles_in
-covered_start a t slots = omega arith
-
-module _ (a : ℕ) (ws : List ℕ) (i sum : ℕ) {all : ℕ} (e : sum + covered a (map tile_of (drop i ws)) ≡ all) where
-  pub covered_on : (x w : ℕ) → i < length ws → get_or ws i 0 ≡ w → x ≡ if (eqb (tile_of w).account a) (4 ^ (tile_of w).size) 0 → sum + x + covered a (map tile_of (drop (i + 1) ws)) ≡ all
-  unfolding covered
-  covered_on x w h ew k = rw (add-one i) (omega (arith, rw (drop-cons ws i 0 h, ew) at e))
-
-  pub covered_end : i ≡ length ws → sum ≡ all
-  unfolding covered
-  covered_end h = let d : drop i ws ≡ [] = rw h (drop-length ws) in omega (arith, rw d at e)
 
 entry_join : (b : Bool) (e : Entry) (es : List Entry) → if b (e ∷ es) es ≡ if b (e ∷ []) [] ++ es
 unfolding if

@@ -7,7 +7,8 @@ use Rattle.mapfile_sections.proofs.put_entry.Goals as goal
 pub returns-then-pixels-eq0 : goal.returns-then-pixels-eq0
 returns-then-pixels-eq0 c =
     let a = c.args in
-    entry_none a.file.now a.p a.account a.pixels c.if-pixels-eq0.true
+    let none = entry_none a.file.now a.p a.account a.pixels c.if-pixels-eq0.true in
+    record { next = none.0; stored = none.1 }
 
 pub bounds-file-p : goal.bounds-file-p
 bounds-file-p c = omega (arith, c.requires, entry_of_length c.args.account c.args.pixels c.if-pixels-eq0.false)
@@ -26,5 +27,5 @@ shape_of-file c =
 pub returns : goal.returns
 returns c =
     let a = c.args in
-    let if1 = c.if-pixels-eq0 in
-    entry_one a.file.now a.p a.account a.pixels if1.false c.put.ensures
+    let one = entry_one a.file.now a.p a.account a.pixels c.if-pixels-eq0.false c.put.ensures in
+    record { next = one.0; stored = one.1 }
