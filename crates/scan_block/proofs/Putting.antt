@@ -1,10 +1,9 @@
 -- A block put quad by quad.
---     place_number, place_bound   a place by shifts
---     side_word, span_word        a side as shifts compute it
+--     side_least                  sides, by size
 --     quad_place                  the places of a quad's pixels
 --     Putting                     the block is put up to x
 --     putting-start, -room, -bytes, -quad, -done, -next
---     square_place, square_small  the place of a column and a row
+--     square_place                the place of a column and a row
 use mathlib.Core.Path.{◌≡◌, refl, ap, sym, ◌∙◌}
 use mathlib.Core.List.{List}
 use Prim.Native.Nat.{ℕ, zero, suc, ◌+◌, ◌-◌, ◌*◌, ◌/◌, ◌%◌, ◌^◌, ◌≤◌, ◌<◌}
@@ -13,38 +12,18 @@ use native.Mathlib.Omega.{arith}
 use lib.Pow.{pow_mono}
 use lib.ListN.{length, get_or}
 use Rattle.morton.specs.Morton.{morton, column, row, side_bits}
-use Rattle.morton.proofs.MortonLaws.{morton_lt, morton_wide, column_morton, row_morton, column_wide, row_wide}
+use Rattle.morton.proofs.MortonLaws.{morton_wide, column_morton, row_morton}
 use Rattle.tile.specs.Tile.{highest_order, highest_account}
 use Rattle.quadtree.specs.Raster.{Aligned}
 use Rattle.quadtree.proofs.Alignment.{area_mono, aligned_down, aligned_next, aligned_gap}
 use Rattle.quadtree.proofs.ValidLaws.{quadtree_cong}
 use Rattle.bed.specs.Places.{place_of}
 use Rattle.bed.specs.declared.Kind.TheVariants.{Rows}
-use Rattle.bed.proofs.PlaceLaws.{area_sides, place_of_lt}
+use Rattle.bed.proofs.PlaceLaws.{area_sides}
 use Rattle.tile.specs.Slots.{tiles}
 use Rattle.scan_gap.specs.Gap.{Fits, Moved}
 use Rattle.scan_block.specs.Blocks.{mixed, Advances, Quad, Legible, Bytes, Blocked, BlockFits}
 use Rattle.scan_block.proofs.Advance.{mixed_out, advance_then, advance_is}
-
-module _ (n z : ℕ) (h : n ≤ highest_order) (l : z < 4 ^ n) where
-  row_fits : row side_bits z * 2 ^ n + column side_bits z ≡ place_of Rows n z
-  unfolding place_of
-  row_fits = rw (row_wide n side_bits z h l, column_wide n side_bits z h l)
-
-  place_small : place_of Rows n z < 4 ^ highest_order
-  place_small = let big : 4 ^ n ≤ 4 ^ highest_order = area_mono h in omega (arith, place_of_lt Rows n z l)
-
-  pub place_number : row side_bits z * 2 ^ n % 2 ^ 32 + column side_bits z ≡ place_of Rows n z
-  place_number = omega (arith, row_fits, place_small)
-
-  pub place_bound : row side_bits z * 2 ^ n % 2 ^ 32 + column side_bits z < 4 ^ highest_order
-  place_bound = omega (arith, place_number, place_small)
-
-pub side_word : (k : ℕ) → k ≤ highest_order → 1 * 2 ^ k % 2 ^ 64 ≡ 2 ^ k
-side_word k h = let l : 2 ^ k ≤ 2 ^ highest_order = pow_mono h in omega arith
-
-pub span_word : (k : ℕ) → k ≤ highest_order → 1 * 2 ^ k % 2 ^ 32 ≡ 2 ^ k
-span_word k h = let l : 2 ^ k ≤ 2 ^ highest_order = pow_mono h in omega arith
 
 pub side_least : {j k : ℕ} → j ≤ k → 2 ^ j ≤ 2 ^ k
 side_least h = pow_mono h
@@ -150,9 +129,6 @@ module _ (n c r : ℕ) (h : n ≤ highest_order) (lc : c < 2 ^ n) (lr : r < 2 ^ 
       let big : 4 ^ n ≤ 4 ^ highest_order = area_mono h in
       let small : r * 2 ^ n % 2 ^ 32 ≡ r * 2 ^ n = omega (arith, mul-le-mul_right (2 ^ n) (let s : r + 1 ≤ 2 ^ n = omega arith in s), add-mul r 1 (2 ^ n), area_sides n) in
       rw (small, morton_wide n side_bits c r h lc lr, row_morton n c r lr, column_morton n c r lc)
-
-  pub square_small : r * 2 ^ n % 2 ^ 32 + c < 4 ^ highest_order
-  square_small = let big : 4 ^ n ≤ 4 ^ highest_order = area_mono h in omega (arith, square_place, place_of_lt Rows n (morton side_bits c r) (rw (morton_wide n side_bits c r h lc lr) (morton_lt n c r)))
 
 -- the bytes of the next quad, in the words of the code
 pub putting_next : {u t : List ℕ} {i e n d : ℕ} {bytes : List ℕ} {lo x r : ℕ} → Putting u t i e n d bytes lo x r → {c q k : ℕ} → BlockFits n d bytes c q k → lo ≡ morton side_bits c q → (area at y : ℕ) → area ≡ 4 ^ k → x < lo + area →

@@ -1,7 +1,7 @@
 -- The four pixels of a quad.
 --     level_some                  the last of the four pixels ends a larger block
 --     quad_skip, quad_put         four accounts that are the same
---     alone_none, -full, -store   a pixel as a tile by itself, as stored
+--     alone_store                 a pixel as a tile by itself, as stored
 --     quad_mixed                  four accounts that are not the same: each is a tile by itself
 use mathlib.Core.Path.{◌≡◌, refl, ap, sym, ◌∙◌}
 use mathlib.Core.List.{List, [], ◌∷◌, ◌++◌, append_assoc, map-append}
@@ -27,12 +27,6 @@ use Rattle.scan_block.proofs.Advance.{mixed_in, mixed_painted, head_drop, receiv
 
 -- what the store does
 module _ (s : List ℕ) (i b z a : ℕ) (fit : Fits s i b) where
-  pub alone_none : a ≡ 0 → Alone s s i b z a i
-  alone_none e = record { fits = fit.0; back = refl; none = λ _. (refl, refl); put = λ p _. absurd (omega arith) }
-
-  pub alone_full : 0 < a → i ≡ b → Alone s s i b z a i
-  alone_full p e = record { fits = fit.0; back = refl; none = λ q. absurd (omega arith); put = λ _ h. absurd (omega arith) }
-
   pub alone_store : (w : ℕ) → 0 < a → (i ≡ b → ⊥) → z < 4 ^ highest_order → a ≤ highest_account → w ≡ word_of (tile z 0 a) → Alone s (set s i w) i b z a (i + 1)
   alone_store w p e l low q =
       let inside : i < length s = omega (arith, fit) in
