@@ -1,8 +1,10 @@
 -- The largest block of a stretch by the bits of two numbers.
 --     greedy_starts    the size that can start at lo, where there is more room
 --     greedy_room      the size that has room, where at least this can start
+--     greedy_least     the smaller of the two
 use mathlib.Core.Path.{◌≡◌, refl, ap, ◌∙◌}
-use Prim.Native.Nat.{ℕ, zero, suc, ◌-◌, ◌/◌, ◌^◌, ◌≤◌, ◌<◌}
+use Prim.Native.Nat.{ℕ, zero, suc, ◌-◌, ◌/◌, ◌^◌, ◌≤◌, ◌<◌, min}
+use native.Mathlib.Decide.{dec_lt}
 use native.Mathlib.Omega.{arith}
 use lib.Count.{count_leading_zeros, count_trailing_zeros, trailing_of_zero}
 use Rattle.tile.specs.Tile.{highest_order}
@@ -28,7 +30,7 @@ module _ (lo hi : ℕ) (h : lo < hi) (l : hi ≤ 4 ^ highest_order) where
   at_zero : lo ≡ 0 → starts ≡ 16
   at_zero e = let q : count_trailing_zeros 32 lo ≡ 32 = ap (λ (x : ℕ). count_trailing_zeros 32 x) e ∙ trailing_of_zero 32 in omega arith
 
-  pub greedy_starts : starts < room → Greedy lo hi starts
+  greedy_starts : starts < room → Greedy lo hi starts
   greedy_starts g = go lo refl
     where
       go : (x : ℕ) → lo ≡ x → Greedy lo hi starts
@@ -41,9 +43,15 @@ module _ (lo hi : ℕ) (h : lo < hi) (l : hi ≤ 4 ^ highest_order) where
             top = λ a k. v.over a;
           }
 
-  pub greedy_room : room ≤ starts → Greedy lo hi room
+  greedy_room : room ≤ starts → Greedy lo hi room
   greedy_room g = record { aligned = go lo refl; fits = omega (arith, size.fits); top = λ a k. omega (arith, size.more) }
     where
       go : (x : ℕ) → lo ≡ x → Aligned room lo
       go zero e = record { times = 0; is = omega arith }
       go (suc x) e = let v = levels_half lo (omega arith) (omega arith) in aligned_down g v.ends
+
+  pub greedy_least : (k : ℕ) → k ≡ min starts room → Greedy lo hi k
+  greedy_least k e = elim (dec_lt starts room) [
+    | yes g ↦ let d : k ≡ starts = omega arith in rw d (greedy_starts g)
+    | no g ↦ let d : k ≡ room = omega arith in rw d (greedy_room (omega arith))
+  ]

@@ -7,29 +7,29 @@ use Rattle.quadtree.proofs.Cuts.{cut_nobody}
 use Rattle.list_cut.proofs.Turns.{count_start, count_more, count_all, greedy_size}
 use Rattle.list_cut.proofs.count_cut.Goals as goal
 
-pub loop-x-init : goal.loop-x-init
-loop-x-init c = count_start _ _ _ c.requires.0
+pub loop-corner-init : goal.loop-corner-init
+loop-corner-init c = count_start _ _ _ c.requires.0
 
-pub loop-x-preserved : goal.loop-x-preserved
-loop-x-preserved c =
-    let loop = c.loop-x in
+pub loop-corner-preserved : goal.loop-corner-preserved
+loop-corner-preserved c =
+    let loop = c.loop-corner in
     let pre = c.requires in
-    rw c.area-x.ensures (count_more loop.invariant (omega arith) c.loop-x-test.true pre.1 c.largest.ensures)
+    rw c.area-corner.ensures (count_more loop.invariant (omega arith) c.loop-corner-test.true pre.1 c.largest.ensures)
 
 pub returns-then-account-eq0 : goal.returns-then-account-eq0
 returns-then-account-eq0 c =
     let a = c.args in
     let e : a.account ≡ 0 = omega arith in
-    rw (e, cut_nobody highest_order a.lo a.hi)
+    rw (e, cut_nobody highest_order a.stretch.start a.stretch.end)
 
 pub returns : goal.returns
-returns c = count_all c.loop-x.invariant c.loop-x-test.false
+returns c = count_all c.loop-corner.invariant c.loop-corner-test.false
 
-pub loop-x-smaller : goal.loop-x-smaller
-loop-x-smaller c = omega (arith, c.area-x.ensures, c.largest.ensures.fits, area_pos c.largest.result)
+pub loop-corner-smaller : goal.loop-corner-smaller
+loop-corner-smaller c = omega (arith, c.area-corner.ensures, c.largest.ensures.fits, area_pos c.largest.result)
 
-pub area-x-requires : goal.area-x-requires
-area-x-requires c = omega (arith, greedy_size c.requires.1 c.largest.ensures)
+pub area-corner-requires : goal.area-corner-requires
+area-corner-requires c = omega (arith, greedy_size c.requires.1 c.largest.ensures)
 
-pub overflow_add-x : goal.overflow_add-x
-overflow_add-x c = omega (arith, c.largest.ensures.fits, c.area-x.ensures, c.requires)
+pub overflow_add-corner : goal.overflow_add-corner
+overflow_add-corner c = omega (arith, c.largest.ensures.fits, c.area-corner.ensures, c.requires)
