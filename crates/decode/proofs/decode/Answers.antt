@@ -5,7 +5,7 @@ use Rattle.std.proofs.Common.{rules}
 use Rattle.refusal.proofs.RefusedLaws.{else_refused, unless_refused}
 use Rattle.list_check.proofs.TreeLaws.{tree_order}
 use Rattle.decode.specs.Decode.{decode_check, decode_of}
-use Rattle.decode.proofs.DecodeLaws.{decode_of_length, decode_of_filled}
+use Rattle.decode.proofs.DecodeLaws.{decode_of_length, decode_of_words}
 use Rattle.decode.proofs.decode.Goals as goal
 
 pub returns-in_err-map : goal.returns-in_err-map
@@ -21,4 +21,4 @@ returns-then-raster-area c = sym (decode_of_length _ _ _ _ (sym c.in_ok-map.ensu
 pub returns : goal.returns
 returns c =
     let tree = c.in_ok-map.ensures.tree in
-    sym (decode_of_filled _ _ _ _ (sym c.in_ok-map.ensures.number) (omega (arith, c.if-raster-area.false, c.area.ensures)) tree.1 (rw tree.0 at c.fill.ensures))
+    sym (decode_of_words _ _ _ _ (sym c.in_ok-map.ensures.number) (omega (arith, c.if-raster-area.false, c.area.ensures)) tree.1 (rw tree.0 at c.fill.ensures))
