@@ -2,10 +2,12 @@
 --     tree_order    its order is that of a bed
 --     tree_valid    its tiles are a valid list
 --     tiles_whole   the tiles of all of some words
+--     tree_passes   some slots that pass, pass by themselves
 --     tree_tiles    they are the tiles of the first slots, where its words are those of the slots
-use mathlib.Core.Path.{◌≡◌, ap, sym, subst}
+use mathlib.Core.Path.{◌≡◌, refl, ap, sym, subst, ◌∙◌}
 use mathlib.Core.List.{List}
 use Prim.Native.Nat.{ℕ, ◌≤◌}
+use native.Mathlib.Nat.{le_refl}
 use lib.ListN.{length, take}
 use lib.Seq.{take-length}
 use Rattle.refusal.specs.Refusal.{accepted}
@@ -33,3 +35,11 @@ module _ (n : ℕ) (ws : List ℕ) (p : list_check n (length ws) ws ≡ accepted
 pub tree_tiles : (t : ℕ) (slots : List ℕ) {ws : List ℕ} → ws ≡ take t slots → tiles_in t slots ≡ tiles ws
 unfolding tiles_in
 tree_tiles t slots e = ap tiles (sym e)
+
+-- what passes as so many slots passes by itself
+pub tree_passes : (n t : ℕ) (slots : List ℕ) → list_check n t slots ≡ accepted → list_check n (length (take t slots)) (take t slots) ≡ accepted
+tree_passes n t slots p =
+    let v = (list_check_valid n t slots).0 p in
+    let P : List Tile → Type 0 = λ ts. Valid n ts in
+    let w = subst P (tree_tiles t slots refl ∙ sym (tiles_whole (take t slots))) v.2 in
+    (list_check_valid n (length (take t slots)) (take t slots)).1 (v.0, le_refl _, w)

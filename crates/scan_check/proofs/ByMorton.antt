@@ -5,19 +5,17 @@
 use mathlib.Core.Path.{◌≡◌, ◌∙◌, refl, ap, sym}
 use mathlib.Core.Bool.{Bool, true, false, ◌||◌}
 use mathlib.Core.List.Memᴰ
-use mathlib.Core.List.{List, ◌∷◌}
+use mathlib.Core.List.{List, [], ◌∷◌}
 use Prim.Native.Nat.{ℕ, ◌-◌, ◌≤◌, ◌<◌}
 use native.Mathlib.Decide.{dec_lt}
 use native.Mathlib.Omega.{arith}
 use lib.Dec.{ltb}
-use lib.ListN.{length, get_or}
+use lib.ListN.{length, get_or, length-map, get_or-map}
 use borrow.Author.Tests.{lt-ltb, le-ltb}
 use Rattle.basics.proofs.Tests.{test_true}
 use Rattle.tile.specs.declared.Tile.{Tile}
 use Rattle.tile.specs.Tile.{tile_of, stop}
-use Rattle.tile.specs.Slots.{tiles_in}
-use Rattle.tile.proofs.SlotsLaws.{length_tiles_in}
-use Rattle.tile.proofs.SlotTiles.{tiles_in_at, tiles_in_in}
+use Rattle.tile.specs.Slots.{tiles}
 use Rattle.quadtree.specs.Raster.{◌∈◌}
 use Rattle.quadtree.specs.Valid.{Valid}
 use Rattle.quadtree.proofs.Alignment.{area_pos}
@@ -27,7 +25,8 @@ use Rattle.bed.specs.declared.Scan.{Scan}
 use Rattle.bed.specs.Places.{unscanned_in}
 use Rattle.bed.proofs.ScannedBlocks.{test_unscanned}
 use Rattle.scan_check.specs.Opening.{covers_unscanned}
-use Rattle.scan_check.proofs.Unscanned.{place_morton}
+use Rattle.bed.proofs.PlaceWords.{place_morton}
+use Rattle.scan_check.proofs.Unscanned.{word_in}
 use Rattle.scan_check.proofs.ScannedLaws.{tiles_clear}
 
 or_true : (a : Bool) → (a || true) ≡ true
@@ -41,26 +40,27 @@ covers_member c (t ∷ ts) (Memᴰ.tail m) h =
     ap (λ (b : Bool). unscanned_in c.kind c.order c.pixels t.corner t.size || b) (covers_member c ts m h) ∙ or_true (unscanned_in c.kind c.order c.pixels t.corner t.size)
 covers_member c {u = u} mathlib.Core.List.[] x'' h = elim x'' [ ]
 
-pub covers_empty : (c : Scan) (slots : List ℕ) (t : ℕ) → t ≡ 0 → covers_unscanned c (tiles_in t slots) ≡ false
-unfolding covers_unscanned tiles_in
-covers_empty c slots t e = rw e
+pub covers_empty : (c : Scan) (ws : List ℕ) → length ws ≡ 0 → covers_unscanned c (tiles ws) ≡ false
+unfolding covers_unscanned
+covers_empty c [] e = refl
+covers_empty c (w ∷ ws) e = absurd (omega arith)
 
-module _ (c : Scan) (slots : List ℕ) (k : c.kind ≡ Morton) (v : Valid c.order (tiles_in c.tiles slots)) (some : 0 < c.tiles) (fits : c.tiles ≤ length slots) where
+module _ (c : Scan) (ws : List ℕ) (k : c.kind ≡ Morton) (v : Valid c.order (tiles ws)) (some : 0 < length ws) where
   abbrev last : Tile
-  last = tile_of (get_or slots (c.tiles - 1) 0)
+  last = tile_of (get_or ws (length ws - 1) 0)
 
-  upto : {t : Tile} → t ∈ tiles_in c.tiles slots → stop t ≤ stop last
-  upto m = rw (tiles_in_at c.tiles slots (c.tiles - 1) (omega arith)) at
-      (chain_last (tile_of 0) (c.tiles - 1) v.chain (omega (arith, length_tiles_in c.tiles slots fits)) m)
+  upto : {t : Tile} → t ∈ tiles ws → stop t ≤ stop last
+  upto m = rw (get_or-map tile_of ws (length ws - 1) 0) at
+      (chain_last (tile_of 0) (length ws - 1) v.chain (omega (arith, length-map ws tile_of)) m)
 
-  pub morton_last : (x : ℕ) → x ≡ stop last → ltb c.pixels x ≡ covers_unscanned c (tiles_in c.tiles slots)
+  pub morton_last : (x : ℕ) → x ≡ stop last → ltb c.pixels x ≡ covers_unscanned c (tiles ws)
   morton_last x e = elim (dec_lt c.pixels x) [
     | yes h ↦
         let z : ℕ = stop last - 1 in
         let p = area_pos last.size in
         let u = test_true (test_unscanned c.kind c.order c.pixels last.corner last.size)
         (z, omega arith, omega arith, λ l. omega (arith, place_morton c.kind c.order z k)) in
-        lt-ltb c.pixels x h ∙ sym (covers_member c (tiles_in c.tiles slots) (tiles_in_in c.tiles slots (c.tiles - 1) (omega arith) fits) u)
-    | no h ↦ le-ltb c.pixels x (omega arith) ∙ sym (tiles_clear c (tiles_in c.tiles slots) (λ t m z l g.
+        lt-ltb c.pixels x h ∙ sym (covers_member c (tiles ws) (word_in ws (length ws - 1) (omega arith)) u)
+    | no h ↦ le-ltb c.pixels x (omega arith) ∙ sym (tiles_clear c (tiles ws) (λ t m z l g.
         omega (arith, upto m, place_morton c.kind c.order z k)))
   ]

@@ -1,5 +1,4 @@
 -- Check 22 by rows, word by word.
---     side_shifted    the side of a bed, as the code computes it
 --     stands          the place of the next pixel, as the code spreads it
 --     Compared        what comparing a pixel with it, row first, tells of the places; `compared`, that it does
 --     row_first       a comparison, row first, by how its tests end
@@ -13,13 +12,13 @@ use native.Mathlib.Nat.{mul-le-mul_right, mod-lt, div-add-mod'}
 use native.Mathlib.Omega.{arith}
 use borrow.Author.Tests.{le-leb, lt-leb}
 use lib.Dec.{leb}
-use lib.ListN.{length, take, drop, get_or}
+use lib.ListN.{length, drop, get_or}
 use lib.Pow.{pow_pos, pow_mono}
 use Rattle.morton.specs.Morton.{morton, column, row, side_bits}
 use Rattle.morton.proofs.MortonLaws.{morton_lt, column_lt, row_lt, column_wide, row_wide}
 use Rattle.morton.proofs.SpreadLaws.{spread_rises, spread_lt, spread_same}
 use Rattle.tile.specs.Tile.{tile_of, stop, highest_order}
-use Rattle.tile.specs.Slots.{tiles, tiles_in}
+use Rattle.tile.specs.Slots.{tiles}
 use Rattle.quadtree.specs.Valid.{Valid}
 use Rattle.quadtree.proofs.Alignment.{cmp, below, same, above}
 use Rattle.quadtree.proofs.Chains.{quadrant_stop}
@@ -35,15 +34,12 @@ use Rattle.scan_check.proofs.Unscanned.{word_quadrant, opened, covers_none}
 side_upto : (n : ℕ) → n ≤ highest_order → 2 ^ n ≤ 2 ^ side_bits
 side_upto n h = pow_mono h
 
-pub side_shifted : (n : ℕ) → n ≤ highest_order → 1 * 2 ^ n % 2 ^ 32 ≡ 2 ^ n
-side_shifted n h = omega (arith, side_upto n h)
-
-pub stands : (n s x y : ℕ) → n ≤ highest_order → s < 4 ^ n → x ≡ morton side_bits (s / 2 ^ n) 0 → y ≡ morton side_bits (s % (1 * 2 ^ n % 2 ^ 32)) 0 → Stands n s (x * 2 % 2 ^ 32) y
-stands n s x y h l ex ey = record {
+pub stands : (n s x y b : ℕ) → n ≤ highest_order → s < 4 ^ n → b ≡ 2 ^ n → x ≡ morton side_bits (s / 2 ^ n) 0 → y ≡ morton side_bits (s % b) 0 → Stands n s (x * 2 % 2 ^ 32) y
+stands n s x y b h l eb ex ey = record {
   order = h;
   unfinished = l;
   down = omega (arith, ex, morton_lt side_bits (s / 2 ^ n) 0);
-  across = ey ∙ ap (λ (b : ℕ). morton side_bits (s % b) 0) (side_shifted n h);
+  across = ey ∙ ap (λ (b : ℕ). morton side_bits (s % b) 0) eb;
 }
 
 -- d and a are where the scan stands, x and y the same of a pixel, and p its place
@@ -122,15 +118,15 @@ or_none true = refl
 or_none false = refl
 
 -- the words looked at are in `bad`, those from i on decide
-module _ (n s t : ℕ) (slots : List ℕ) (fits : t ≤ length slots) (bad : Bool) (i : ℕ) where
+module _ (n s t : ℕ) (ws : List ℕ) (bad : Bool) (i : ℕ) where
   abbrev pub left : ℕ → Bool
-  left j = covers_unscanned (scan_of Rows n s t) (tiles (drop j (take t slots)))
+  left j = covers_unscanned (scan_of Rows n s t) (tiles (drop j ws))
 
-  pub rows_on : Valid n (tiles_in t slots) → i < t → (b : Bool) → b ≡ leb s (place_of Rows n (stop (tile_of (get_or slots i 0)) - 1)) → (bad || left i) ≡ ((bad || b) || left (i + 1))
+  pub rows_on : Valid n (tiles ws) → i < length ws → (b : Bool) → b ≡ leb s (place_of Rows n (stop (tile_of (get_or ws i 0)) - 1)) → (bad || left i) ≡ ((bad || b) || left (i + 1))
   rows_on v h b e =
-      let q = word_quadrant slots t i h fits v in
-      let u = e ∙ unscanned_last Rows n s (tile_of (get_or slots i 0)).corner (tile_of (get_or slots i 0)).size q.aligned (quadrant_stop q) in
-      ap (λ (x : Bool). bad || x) (opened slots t i h fits (scan_of Rows n s t) ∙ ap (λ (x : Bool). x || left (i + 1)) (sym u)) ∙ or_assoc bad b (left (i + 1))
+      let q = word_quadrant ws i h v in
+      let u = e ∙ unscanned_last Rows n s (tile_of (get_or ws i 0)).corner (tile_of (get_or ws i 0)).size q.aligned (quadrant_stop q) in
+      ap (λ (x : Bool). bad || x) (opened ws i h (scan_of Rows n s t) ∙ ap (λ (x : Bool). x || left (i + 1)) (sym u)) ∙ or_assoc bad b (left (i + 1))
 
-  pub rows_end : i ≡ t → (bad || left i) ≡ bad
-  rows_end e = ap (λ (x : Bool). bad || x) (covers_none (scan_of Rows n s t) slots t i e fits) ∙ or_none bad
+  pub rows_end : i ≡ length ws → (bad || left i) ≡ bad
+  rows_end e = ap (λ (x : Bool). bad || x) (covers_none (scan_of Rows n s t) ws i e) ∙ or_none bad

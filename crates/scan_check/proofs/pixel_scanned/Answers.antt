@@ -12,9 +12,9 @@ returns-then-whole c =
 pub returns-then-scan-place : goal.returns-then-scan-place
 returns-then-scan-place c =
     let a = c.args in
-    pixel_unscanned a.scan a.z (omega (arith, c.place-place.ensures, c.if-scan-place.true))
+    pixel_unscanned a.scan a.z (omega (arith, c.place.ensures, c.if-scan-place.true))
 
 pub returns : goal.returns
 returns c =
     let a = c.args in
-    pixel_scanned a.scan a.z (omega (arith, c.place-place.ensures, c.if-scan-place.false))
+    pixel_scanned a.scan a.z (omega (arith, c.place.ensures, c.if-scan-place.false))
