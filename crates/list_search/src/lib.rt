@@ -2,29 +2,41 @@
 // words; in a valid list there is one such place.
 #![tactic(auto)]
 
-ghost use Rattle.std.specs.Prelude.{◌≡◌, ◌≤◌, length};
+ghost use Rattle.std.specs.Prelude.{◌≡◌, ◌-◌, ◌<◌, ◌≤◌, length, slice_index, true, false};
 ghost use Rattle.tile.specs.Slots.{tiles_in};
 ghost use Rattle.quadtree.specs.Quadtree.{Rising};
 ghost use Rattle.list_search.specs.Cut.{Cut};
 ghost use Rattle.list_search.specs.FirstPast.{FirstPast};
 ghost use Rattle.list_search.specs.Count.{is_ahead, counted};
 
-// The place of z from `from` to `to`: by halves.
-pub fn cut(slots: &[u32], from: usize, to: usize, z: u32) -> usize
-    requires { (from ≤ to) × (to ≤ length slots.now) }
-    ensures { Cut slots.now from to z result }
+// The place from `from` to `to` at which a test of the words turns: the word ahead of it passes, the word at it does
+// not. By halves; the library's `partition_point` promises nothing of words that the test does not part.
+fn turn<P: Fn(u32) -> bool>(words: &[u32], from: usize, to: usize, passes: P) -> usize
+    requires in_bounds { (from ≤ to) × (to ≤ length words.now) }
+    requires callable { P.IsAlwaysCallable passes }
+    ensures within { (from ≤ result) × (result ≤ to) }
+    ensures ahead { from < result → P.post passes (slice_index words.now (result - 1)) true }
+    ensures behind { result < to → P.post passes (slice_index words.now result) false }
 {
     let mut low = from;
     let mut high = to;
     while low < high {
         let middle = low + (high - low) / 2;
-        if tile::corner(slots[middle]) < z {
+        if passes(words[middle]) {
             low = middle + 1;
         } else {
             high = middle;
         }
     }
     low
+}
+
+// The place of z from `from` to `to`.
+pub fn cut(slots: &[u32], from: usize, to: usize, z: u32) -> usize
+    requires { (from ≤ to) × (to ≤ length slots.now) }
+    ensures { Cut slots.now from to z result }
+{
+    turn(slots, from, to, |word| tile::corner(word) < z)
 }
 
 // The place of z from `from` on, where it is expected to be near: in steps that double, and by halves in the last of
@@ -35,6 +47,7 @@ pub fn reach(slots: &[u32], from: usize, z: u32) -> usize
 {
     let n = slots.len();
     let mut low = from;
+    // A `while`: the step doubles.
     while low - from < n - low {
         let probe = low + (low - from);
         if z <= tile::corner(slots[probe]) {
@@ -58,15 +71,5 @@ pub fn first_past(list: &[u32], from: usize, x: u32) -> usize
     requires { from ≤ length list.now }
     ensures { FirstPast list.now from x result }
 {
-    let mut a = from;
-    let mut b = list.len();
-    while a < b {
-        let mid = a + (b - a) / 2;
-        if tile::stop(list[mid]) <= x {
-            a = mid + 1;
-        } else {
-            b = mid;
-        }
-    }
-    a
+    turn(list, from, list.len(), |word| tile::stop(word) <= x)
 }
