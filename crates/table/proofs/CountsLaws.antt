@@ -14,9 +14,15 @@ use lib.ListN.{length, get_or}
 use Rattle.basics.proofs.Tests.{Test, test_eqb, test_and, test_map}
 use Rattle.refusal.specs.Refusal.{accepted, table_malformed, table_unsound}
 use Rattle.refusal.proofs.CheckLaws.{must_inv, must_pass, unless_on, unless_off}
-use Rattle.table.specs.Table.{staff, student, guest, class_of, row_of, columns, own, pixel_kind, says, may_place, old_table}
+use Rattle.table.specs.declared.Class.TheVariants.{Staff, Student, Guest}
+use denote.Enum.Declared.{tag_of}
+use Rattle.table.specs.contracts.Class as class
+use Rattle.table.specs.contracts.Pixel as pixel
+use Rattle.table.specs.declared.Class.{Class}
+use Rattle.table.specs.declared.Pixel.{Pixel}
+use Rattle.table.specs.Table.{class_of, row_of, columns, column_of, own, pixel_kind, says, may_place, old_table}
 use Rattle.table.specs.Load.{table_length, bits_only, sound, table_check, table_of}
-use Rattle.table.proofs.TableLaws.{row_of_lt, pixel_kind_lt, old_rows, old_at}
+use Rattle.table.proofs.TableLaws.{row_of_lt, pixel_kind_lt, row_tag, column_tag, old_rows, old_at}
 use Rattle.table.proofs.LoadLaws.{Bits, test_bits, test_said, Every, test_every}
 
 abbrev pub FormedTable : List ℕ → Type 0
@@ -26,11 +32,11 @@ pub test_formed : (t : List ℕ) → Test (FormedTable t) (eqb (length t) table_
 test_formed t = test_and (test_eqb (length t) table_length) (test_bits t)
 
 pub record SoundTable (t : List ℕ) : Type 0 where
-  pub staffs_own : says t (row_of staff) own ≡ true
-  pub students_own : says t (row_of student) own ≡ true
-  pub guests_own : says t (row_of guest) own ≡ true
-  pub students : Every t (row_of student) (row_of guest) columns
-  pub staffs : Every t (row_of staff) (row_of student) columns
+  pub staffs_own : says t (row_of Staff) own ≡ true
+  pub students_own : says t (row_of Student) own ≡ true
+  pub guests_own : says t (row_of Guest) own ≡ true
+  pub students : Every t (row_of Student) (row_of Guest) columns
+  pub staffs : Every t (row_of Staff) (row_of Student) columns
 
 pub test_sound : (t : List ℕ) → Test (SoundTable t) (sound t)
 unfolding sound
@@ -57,11 +63,11 @@ pub table_of_old : (t : List ℕ) → (table_check t ≡ accepted → ⊥) → t
 unfolding table_of
 table_of_old t e = unless_off (table_check t) _ t e
 
-module _ (t : List ℕ) (p q : ℕ) {r k : ℕ} (er : r ≡ row_of (class_of p)) (ek : k ≡ pixel_kind p q) where
-  pub may_loaded : table_check t ≡ accepted → (b : Bool) → b ≡ says t r k → b ≡ may_place (table_of t) p q
+module _ (t : List ℕ) (p q : ℕ) (x : Class) (k : Pixel) (ex : x ≡ class_of p) (ek : column_of k ≡ pixel_kind p q) where
+  pub may_loaded : table_check t ≡ accepted → (b : Bool) → b ≡ says t (row_of x) (column_of k) → b ≡ may_place (table_of t) p q
   unfolding may_place
-  may_loaded e b h = rw (table_of_loaded t e, sym er, sym ek) h
+  may_loaded e b h = rw (table_of_loaded t e, sym ex, sym ek) h
 
-  pub may_old : (table_check t ≡ accepted → ⊥) → get_or (get_or old_rows r []) k false ≡ may_place (table_of t) p q
+  pub may_old : (table_check t ≡ accepted → ⊥) → get_or (get_or old_rows (tag_of class.the_type x) []) (tag_of pixel.the_type k) false ≡ may_place (table_of t) p q
   unfolding may_place
-  may_old e = rw (table_of_old t e, sym er, sym ek) (old_at r k (rw (sym er) at (row_of_lt (class_of p))) (rw (sym ek) at (pixel_kind_lt p q)))
+  may_old e = rw (row_tag x, column_tag k, table_of_old t e, sym ex, sym ek) (old_at (row_of x) (column_of k) (row_of_lt x) (rw (sym ek) at (pixel_kind_lt p q)))

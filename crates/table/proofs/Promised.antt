@@ -17,7 +17,9 @@ use Rattle.basics.proofs.Tests.{Test, holds, fails, test_eqb, test_map, told_tru
 use Rattle.refusal.specs.Refusal.{accepted, table_malformed, table_unsound}
 use Rattle.refusal.specs.Checks.{must, After}
 use Rattle.refusal.proofs.CheckLaws.{must_pass, unless_on, unless_number, by_unless}
-use Rattle.table.specs.Table.{Class, staff, student, guest, row_of, columns, own, says, old_table}
+use Rattle.table.specs.declared.Class.TheVariants.{Staff, Student, Guest}
+use Rattle.table.specs.declared.Class.{Class}
+use Rattle.table.specs.Table.{row_of, columns, own, says, old_table}
 use Rattle.table.specs.Load.{table_length, bits_only, has_every, sound, table_check, table_of, load_check, load_of}
 use Rattle.table.specs.Promises.{Yes, Formed, Sound, Outcome, Loads, OldLoads, Loadable, Counts, load_all, AllRefused, InForce}
 use Rattle.table.proofs.CountsLaws.{FormedTable, test_formed, SoundTable, test_sound, table_check_passed, table_of_loaded, table_of_old}
@@ -46,22 +48,22 @@ formed_parts file table f = (
 sound_file : (file : List ℕ) → SoundTable (drop 1 file) → Sound file
 sound_file file s = record {
   owns = owns;
-  students = λ k h y. told_true (behind_yes file (row_of student) k) (s.students k h (test_true (behind_yes file (row_of guest) k) y));
-  staffs = λ k h y. told_true (behind_yes file (row_of staff) k) (s.staffs k h (test_true (behind_yes file (row_of student) k) y));
+  students = λ k h y. told_true (behind_yes file (row_of Student) k) (s.students k h (test_true (behind_yes file (row_of Guest) k) y));
+  staffs = λ k h y. told_true (behind_yes file (row_of Staff) k) (s.staffs k h (test_true (behind_yes file (row_of Student) k) y));
 }
   where
     owns : (x : Class) → Yes file (row_of x) own
-    owns staff = told_true (behind_yes file (row_of staff) own) s.staffs_own
-    owns student = told_true (behind_yes file (row_of student) own) s.students_own
-    owns guest = told_true (behind_yes file (row_of guest) own) s.guests_own
+    owns Staff = told_true (behind_yes file (row_of Staff) own) s.staffs_own
+    owns Student = told_true (behind_yes file (row_of Student) own) s.students_own
+    owns Guest = told_true (behind_yes file (row_of Guest) own) s.guests_own
 
 sound_table : (file : List ℕ) → Sound file → SoundTable (drop 1 file)
 sound_table file s = record {
-  staffs_own = test_true (behind_yes file (row_of staff) own) (s.owns staff);
-  students_own = test_true (behind_yes file (row_of student) own) (s.owns student);
-  guests_own = test_true (behind_yes file (row_of guest) own) (s.owns guest);
-  students = λ k h y. test_true (behind_yes file (row_of student) k) (s.students k h (told_true (behind_yes file (row_of guest) k) y));
-  staffs = λ k h y. test_true (behind_yes file (row_of staff) k) (s.staffs k h (told_true (behind_yes file (row_of student) k) y));
+  staffs_own = test_true (behind_yes file (row_of Staff) own) (s.owns Staff);
+  students_own = test_true (behind_yes file (row_of Student) own) (s.owns Student);
+  guests_own = test_true (behind_yes file (row_of Guest) own) (s.owns Guest);
+  students = λ k h y. test_true (behind_yes file (row_of Student) k) (s.students k h (told_true (behind_yes file (row_of Guest) k) y));
+  staffs = λ k h y. test_true (behind_yes file (row_of Staff) k) (s.staffs k h (told_true (behind_yes file (row_of Student) k) y));
 }
 
 -- ---- a load's number

@@ -12,7 +12,9 @@ use Rattle.basics.specs.Choice.{if}
 use Rattle.basics.proofs.Tests.{Test, holds, fails, test_eqb}
 use Rattle.basics.proofs.ChoiceLaws.{if_yes, if_no}
 use Rattle.refusal.proofs.CheckLaws.{by_unless}
-use Rattle.table.specs.Table.{Class, staff, student, guest, class_of, row_of, columns, own, nobodys, held_by, pixel_kind, says, may_place, old_table}
+use Rattle.table.specs.declared.Class.TheVariants.{Staff, Student, Guest}
+use Rattle.table.specs.declared.Class.{Class}
+use Rattle.table.specs.Table.{class_of, row_of, columns, own, nobodys, held_by, pixel_kind, says, may_place, old_table}
 use Rattle.table.specs.Load.{table_check, table_of}
 use Rattle.table.proofs.TableLaws.{pixel_kind_lt}
 use Rattle.table.proofs.LoadLaws.{Every}
@@ -25,22 +27,22 @@ table_of_sound t = by_unless (λ (u : List ℕ). SoundTable u) (table_check t) (
 
 module _ {t : List ℕ} (s : SoundTable t) where
   owns : (x : Class) → says t (row_of x) own ≡ true
-  owns staff = s.staffs_own
-  owns student = s.students_own
-  owns guest = s.guests_own
+  owns Staff = s.staffs_own
+  owns Student = s.students_own
+  owns Guest = s.guests_own
 
   -- what a row says yes to, those above it do too
   up : (x y : Class) → row_of x ≤ row_of y → Every t (row_of x) (row_of y) columns
   unfolding row_of
-  up staff staff h k l y = y
-  up staff student h k l y = s.staffs k l y
-  up staff guest h k l y = s.staffs k l (s.students k l y)
-  up student staff h k l y = absurd (omega arith)
-  up student student h k l y = y
-  up student guest h k l y = s.students k l y
-  up guest staff h k l y = absurd (omega arith)
-  up guest student h k l y = absurd (omega arith)
-  up guest guest h k l y = y
+  up Staff Staff h k l y = y
+  up Staff Student h k l y = s.staffs k l y
+  up Staff Guest h k l y = s.staffs k l (s.students k l y)
+  up Student Staff h k l y = absurd (omega arith)
+  up Student Student h k l y = y
+  up Student Guest h k l y = s.students k l y
+  up Guest Staff h k l y = absurd (omega arith)
+  up Guest Student h k l y = absurd (omega arith)
+  up Guest Guest h k l y = y
 
   pub may_own : (p q : ℕ) → q ≡ p → may_place t p q ≡ true
   unfolding may_place pixel_kind

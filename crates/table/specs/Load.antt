@@ -11,7 +11,8 @@
 use Rattle.std.specs.Prelude.{Bool, true, ◌&&◌, ◌||◌, not, List, [], ◌∷◌, ℕ, zero, suc, leb, eqb, length, get_or, drop}
 use Rattle.refusal.specs.Refusal.{accepted, table_malformed, table_unsound}
 use Rattle.refusal.specs.Checks.{must, unless, After}
-use Rattle.table.specs.Table.{staff, student, guest, row_of, columns, own, says, old_table}
+use Rattle.table.specs.declared.Class.TheVariants.{Staff, Student, Guest}
+use Rattle.table.specs.Table.{row_of, columns, own, says, old_table}
 
 abbrev pub table_length : ℕ
 table_length = 15
@@ -26,8 +27,8 @@ has_every t r s (suc k) = has_every t r s k && (not (says t s k) || says t r k)
 
 unfoldable pub sound : List ℕ → Bool
 sound t =
-    (says t (row_of staff) own && (says t (row_of student) own && says t (row_of guest) own))
-    && (has_every t (row_of student) (row_of guest) columns && has_every t (row_of staff) (row_of student) columns)
+    (says t (row_of Staff) own && (says t (row_of Student) own && says t (row_of Guest) own))
+    && (has_every t (row_of Student) (row_of Guest) columns && has_every t (row_of Staff) (row_of Student) columns)
 
 unfoldable pub table_check : List ℕ → ℕ
 table_check t = must (eqb (length t) table_length && bits_only t) table_malformed (must (sound t) table_unsound accepted)

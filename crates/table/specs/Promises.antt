@@ -15,7 +15,9 @@
 use Rattle.std.specs.Prelude.{◌≡◌, ◌↔◌, ℕ, ◌+◌, ◌*◌, ◌≤◌, ◌<◌, length, get_or, drop}
 use mathlib.Core.List.{List, [], ◌∷◌, ◌++◌, Memᴰ}
 use Rattle.refusal.specs.Refusal.{accepted, table_malformed, table_unsound}
-use Rattle.table.specs.Table.{Class, staff, student, guest, row_of, columns, own, old_table}
+use Rattle.table.specs.declared.Class.TheVariants.{Staff, Student, Guest}
+use Rattle.table.specs.declared.Class.{Class}
+use Rattle.table.specs.Table.{row_of, columns, own, old_table}
 use Rattle.table.specs.Load.{table_length, table_of, load_of}
 
 -- the table's bytes stand behind the count, row after row
@@ -30,8 +32,8 @@ pub record Formed (file table : List ℕ) : Type 0 where
 
 pub record Sound (file : List ℕ) : Type 0 where
   pub owns : (x : Class) → Yes file (row_of x) own
-  pub students : (k : ℕ) → k < columns → Yes file (row_of guest) k → Yes file (row_of student) k
-  pub staffs : (k : ℕ) → k < columns → Yes file (row_of student) k → Yes file (row_of staff) k
+  pub students : (k : ℕ) → k < columns → Yes file (row_of Guest) k → Yes file (row_of Student) k
+  pub staffs : (k : ℕ) → k < columns → Yes file (row_of Student) k → Yes file (row_of Staff) k
 
 pub record Outcome (file table : List ℕ) : Type 0 where
   pub malformed : ((load_of file table).answer ≡ table_malformed) ↔ (Formed file table → ⊥)

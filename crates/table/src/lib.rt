@@ -2,11 +2,14 @@
 // file into bytes that the caller keeps and hands in; where no load would accept these, the old table counts.
 #![tactic(auto)]
 
-ghost use Rattle.std.specs.Prelude.{◌≡◌, ◌&&◌, not, ◌<◌, length};
+ghost use Rattle.std.specs.Prelude.{◌≡◌, IfOk, drop};
 ghost use Rattle.refusal.specs.Checks.{Gives};
-ghost use Rattle.table.specs.Table.{class_of, row_of, columns, pixel_kind, says, may_place};
+ghost use Rattle.refusal.specs.Refused.{said};
+ghost use Rattle.table.specs.Table.{class_of, row_of, column_of, pixel_kind, columns, says, may_place};
 ghost use Rattle.table.specs.Load.{table_length, bits_only, has_every, sound};
 ghost use Rattle.table.specs.Load.{table_check, table_of, load_check, load_of};
+
+use refusal::{Checked, Refusal};
 
 // The bytes of a table, three rows by five columns.
 const LENGTH: usize = 15;
@@ -18,23 +21,10 @@ const COUNT: u8 = 15;
 
 const YES: u8 = 1;
 
-// The rows. Accounts up to LAST_STAFF are staff, from there up to LAST_STUDENT students, the others guests.
-const STAFF: usize = 0;
-
-const STUDENT: usize = 1;
-
-const GUEST: usize = 2;
-
+// Accounts up to LAST_STAFF are staff, from there up to LAST_STUDENT students, the others guests.
 const LAST_STAFF: u8 = 7;
 
 const LAST_STUDENT: u8 = 47;
-
-// The columns: the asking account's own pixel, nobody's, another guest's, another student's, another staff member's.
-const OWN: usize = 0;
-
-const NOBODYS: usize = 1;
-
-const ANOTHER_STAFFS: usize = 4;
 
 // The old table, document 01's: it counts where the one handed in cannot be loaded.
 const OLD: [[bool; 5]; 3] = [
@@ -43,142 +33,154 @@ const OLD: [[bool; 5]; 3] = [
     [true, false, false, false, false],
 ];
 
-// The row of an account's class.
-fn class_of(account: u8) -> usize
-    ensures { result ≡ row_of (class_of account) }
-{
-    if account <= LAST_STAFF {
-        return STAFF;
-    }
-    if account <= LAST_STUDENT {
-        return STUDENT;
-    }
-    GUEST
+// The rows.
+#[derive(Clone, Copy, Debug, PartialEq, Eq)]
+enum Class {
+    Staff,
+    Student,
+    Guest,
 }
 
-// The column of a pixel for the asking account: those of others' pixels go by the holder's class, back from the last.
-fn pixel_kind(asking: u8, holder: u8) -> usize
-    ensures { result ≡ pixel_kind asking holder }
-{
-    if asking == holder {
-        return OWN;
-    }
-    if holder == 0 {
-        return NOBODYS;
-    }
-    ANOTHER_STAFFS - class_of(holder)
-}
-
-// Whether no byte is above 1.
-fn bits_only(bytes: &[u8]) -> bool
-    ensures { result ≡ bits_only bytes.now }
-{
-    let mut i = 0;
-    while i < bytes.len() {
-        if YES < bytes[i] {
-            return false;
+impl Class {
+    // The class of an account.
+    fn of(account: u8) -> Class
+        ensures { result ≡ class_of account }
+    {
+        if account <= LAST_STAFF {
+            return Class::Staff;
         }
-        i += 1;
-    }
-    true
-}
-
-// What a table's bytes say in a row and a column.
-fn at(table: &[u8], row: usize, column: usize) -> bool
-    requires { (length table.now ≡ table_length) × (row < 3) × (column < columns) }
-    ensures { result ≡ says table.now row column }
-{
-    table[row * COLUMNS + column] == YES
-}
-
-// Whether a row says no in a column where another says yes.
-fn lacks(table: &[u8], row: usize, other: usize, column: usize) -> bool
-    requires { (length table.now ≡ table_length) × (row < 3) × (other < 3) × (column < columns) }
-    ensures { result ≡ says table.now other column && not (says table.now row column) }
-{
-    if at(table, row, column) {
-        return false;
-    }
-    at(table, other, column)
-}
-
-// Whether a row has every yes of another, column by column.
-fn has_every(table: &[u8], row: usize, other: usize) -> bool
-    requires { (length table.now ≡ table_length) × (row < 3) × (other < 3) }
-    ensures { result ≡ has_every table.now row other columns }
-{
-    let mut column = 0;
-    while column < COLUMNS {
-        if lacks(table, row, other, column) {
-            return false;
+        if account <= LAST_STUDENT {
+            return Class::Student;
         }
-        column += 1;
+        Class::Guest
     }
-    true
 }
 
-// Whether each row says yes to its own pixels, and has every yes of the row below it.
-fn rows_sound(table: &[u8]) -> bool
-    requires { length table.now ≡ table_length }
-    ensures { result ≡ sound table.now }
-{
-    if !at(table, STAFF, OWN) {
-        return false;
-    }
-    if !at(table, STUDENT, OWN) {
-        return false;
-    }
-    if !at(table, GUEST, OWN) {
-        return false;
-    }
-    if !has_every(table, STUDENT, GUEST) {
-        return false;
-    }
-    has_every(table, STAFF, STUDENT)
+// The columns: the asking account's own pixel, nobody's, another guest's, another student's, another staff member's.
+#[derive(Clone, Copy, Debug, PartialEq, Eq)]
+enum Pixel {
+    Own,
+    Nobodys,
+    Guests,
+    Students,
+    Staffs,
 }
 
-// The checks of a table's bytes: 55 for another length or a byte above 1, then 56.
-fn check(table: &[u8]) -> u32
-    ensures { result ≡ table_check table.now }
-{
-    if table.len() != LENGTH {
-        return refusal::TABLE_MALFORMED;
+impl Pixel {
+    const ALL: [Pixel; COLUMNS] = [
+        Pixel::Own,
+        Pixel::Nobodys,
+        Pixel::Guests,
+        Pixel::Students,
+        Pixel::Staffs,
+    ];
+
+    // What a pixel of the account `holder` is for the asking account.
+    fn of(asking: u8, holder: u8) -> Pixel
+        ensures { column_of result ≡ pixel_kind asking holder }
+    {
+        if asking == holder {
+            return Pixel::Own;
+        }
+        if holder == 0 {
+            return Pixel::Nobodys;
+        }
+        match Class::of(holder) {
+            Class::Guest => Pixel::Guests,
+            Class::Student => Pixel::Students,
+            Class::Staff => Pixel::Staffs,
+        }
     }
-    if !bits_only(table) {
-        return refusal::TABLE_MALFORMED;
-    }
-    if !rows_sound(table) {
-        return refusal::TABLE_UNSOUND;
-    }
-    refusal::ACCEPTED
 }
 
-// The checks of a load into `lent` bytes: a table behind its count.
-fn load_check(file: &[u8], lent: usize) -> u32
-    ensures { result ≡ load_check file.now lent }
-{
-    if file.len() == 0 {
-        return refusal::TABLE_MALFORMED;
+// The bytes of a table, row after row.
+#[derive(Clone, Copy, Debug)]
+struct Table<'a> {
+    bytes: &'a [u8; LENGTH],
+}
+
+impl Table<'_> {
+    // What the table says in a row and a column.
+    fn says(self, class: Class, pixel: Pixel) -> bool
+        ensures { result ≡ says self.entry.bytes.now (row_of class) (column_of pixel) }
+    {
+        self.bytes[class as usize * COLUMNS + pixel as usize] == YES
     }
-    if file[0] != COUNT {
-        return refusal::TABLE_MALFORMED;
+
+    // Whether a row has every yes of another, column by column.
+    fn has_every(self, class: Class, other: Class) -> bool
+        ensures { result ≡ has_every self.entry.bytes.now (row_of class) (row_of other) columns }
+    {
+        for pixel in Pixel::ALL {
+            if self.says(other, pixel) && !self.says(class, pixel) {
+                return false;
+            }
+        }
+        true
+    }
+
+    // Whether no byte is above 1.
+    fn bits_only(self) -> bool
+        ensures { result ≡ bits_only self.entry.bytes.now }
+    {
+        let bytes = self.bytes;
+        bytes.iter().all(|byte| *byte <= YES)
+    }
+
+    // Whether each row says yes to its own pixels, and has every yes of the row below it.
+    fn is_sound(self) -> bool
+        ensures { result ≡ sound self.entry.bytes.now }
+    {
+        self.says(Class::Staff, Pixel::Own)
+            && self.says(Class::Student, Pixel::Own)
+            && self.says(Class::Guest, Pixel::Own)
+            && self.has_every(Class::Student, Class::Guest)
+            && self.has_every(Class::Staff, Class::Student)
+    }
+}
+
+// The table in bytes: 55 for another length or a byte above 1, then 56.
+fn checked(bytes: &[u8]) -> Result<Table<'_>, Refusal>
+    ensures number { said result ≡ table_check bytes.now }
+    ensures table { IfOk result (λ t. t.bytes.now ≡ bytes.now) }
+{
+    let Some(bytes) = bytes.as_array::<LENGTH>() else {
+        return Err(Refusal::TableMalformed);
+    };
+    let table = Table { bytes };
+    if !table.bits_only() {
+        return Err(Refusal::TableMalformed);
+    }
+    if !table.is_sound() {
+        return Err(Refusal::TableUnsound);
+    }
+    Ok(table)
+}
+
+// The table in a file, behind its count, for a load into `lent` bytes.
+fn loadable(file: &[u8], lent: usize) -> Result<Table<'_>, Refusal>
+    ensures number { said result ≡ load_check file.now lent }
+    ensures table { IfOk result (λ t. (t.bytes.now ≡ drop 1 file.now) × (lent ≡ table_length)) }
+{
+    let Some((count, bytes)) = file.split_first() else {
+        return Err(Refusal::TableMalformed);
+    };
+    if *count != COUNT {
+        return Err(Refusal::TableMalformed);
     }
     if lent != LENGTH {
-        return refusal::TABLE_MALFORMED;
+        return Err(Refusal::TableMalformed);
     }
-    check(&file[1..])
+    checked(bytes)
 }
 
 // The offered call: loads the table of a file into the table in force. Refused, that is kept as it was.
-pub fn load(file: &[u8], table: &mut [u8]) -> u32
-    ensures { Gives result table.new (load_of file.now table.old) }
+pub fn load(file: &[u8], table: &mut [u8]) -> Checked
+    ensures { Gives (said result) table.new (load_of file.now table.old) }
 {
-    let number = load_check(file, table.len());
-    if number != refusal::ACCEPTED {
-        return number;
-    }
-    text::put_all(table, 0, &file[1..]);
-    refusal::ACCEPTED
+    let Table { bytes } = loadable(file, table.len())?;
+    table.copy_from_slice(bytes);
+    Ok(())
 }
 
 // The answer of the table that counts, where `table` is handed in: may the asking account place at a pixel of the
@@ -186,10 +188,10 @@ pub fn load(file: &[u8], table: &mut [u8]) -> u32
 pub fn may_place(table: &[u8], asking: u8, holder: u8) -> bool
     ensures { result ≡ may_place (table_of table.now) asking holder }
 {
-    let class = class_of(asking);
-    let kind = pixel_kind(asking, holder);
-    if check(table) != refusal::ACCEPTED {
-        return OLD[class][kind];
+    let class = Class::of(asking);
+    let pixel = Pixel::of(asking, holder);
+    match checked(table) {
+        Ok(loaded) => loaded.says(class, pixel),
+        Err(_) => OLD[class as usize][pixel as usize],
     }
-    at(table, class, kind)
 }

@@ -1,23 +1,16 @@
 -- Refused, the table is as it was; else it is the bytes behind the count.
-use native.Mathlib.Omega.{arith}
-use lib.ListN.{length}
-use Rattle.table.proofs.CallLaws.{load_of_refused, load_of_done, load_check_some}
+use Rattle.std.proofs.Common.{rules, ◌∙◌, ap, List, ℕ}
+use Rattle.refusal.specs.Refusal.{accepted}
+use Rattle.refusal.proofs.RefusedLaws.{unless_passed, unless_refused}
+use Rattle.table.specs.Load.{load_of}
 use Rattle.table.proofs.load.Goals as goal
 
-pub returns-then-number-ne-ACCEPTED : goal.returns-then-number-ne-ACCEPTED
-returns-then-number-ne-ACCEPTED c = let a = c.args in load_of_refused a.file.now a.table.now c.load_check-number.ensures c.if-number-ne-ACCEPTED.true
+pub returns-in_err-bytes : goal.returns-in_err-bytes
+unfolding load_of
+returns-in_err-bytes c = search (rules, unless_refused)
 
 pub returns : goal.returns
+unfolding load_of
 returns c =
-    let a = c.args in
-    load_of_done a.file.now a.table.now _ (omega (arith, c.load_check-number.ensures)) c.put_all.ensures
-
-pub slice_bounds-put_all-count : goal.slice_bounds-put_all-count
-slice_bounds-put_all-count c =
-    let a = c.args in
-    load_check_some a.file.now (length a.table.now) (omega (arith, c.load_check-number.ensures))
-
-pub slice_bounds-put_all-start : goal.slice_bounds-put_all-start
-slice_bounds-put_all-start c =
-    let a = c.args in
-    load_check_some a.file.now (length a.table.now) (omega (arith, c.load_check-number.ensures))
+    let e = c.in_ok-bytes.ensures in
+    ap (λ (t : List ℕ). record { answer = accepted; storage = t }) (c.copy_from_slice.ensures.after ∙ e.table.0) ∙ unless_passed _ _ e.number
