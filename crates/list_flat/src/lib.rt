@@ -35,37 +35,22 @@ fn faults(order: u32, from: usize, to: usize, slots: &[u32]) -> bool
 {
     let mut bad = false;
     let mut all = 0u32;
-    let mut i = from;
-    while i < to {
+    for i in from..to {
         let x = slots[i];
-        bad = bad | fault(x, slots[i + 1], slots[i + 2], slots[i + 3]);
-        all = all | x;
-        i += 1;
+        bad |= fault(x, slots[i + 1], slots[i + 2], slots[i + 3]);
+        all |= x;
     }
     bad | (tile::area(order) <= tile::corner(all))
 }
 
-// How many words the stretch has that starts at i: as many as were looked at up to there. So stretches double, and a
-// fault near the front is soon found.
-fn stretch(i: usize) -> usize
-    ensures { 0 < result }
-{
-    if i < LONGEST - BEHIND {
-        return i + BEHIND;
-    }
-    LONGEST
-}
-
-// Where the stretch ends that starts at i.
+// Where the stretch ends that starts at i: it has as many words as were looked at up to there, so that stretches double
+// and a fault near the front is soon found.
 fn stretch_end(i: usize, end: usize) -> usize
     requires { i < end }
     ensures { (i < result) × (result ≤ end) }
 {
-    let length = stretch(i);
-    if end - i < length {
-        return end;
-    }
-    i + length
+    let longest = i.min(LONGEST - BEHIND) + BEHIND;
+    i + longest.min(end - i)
 }
 
 // Where the first stretch starts, from `from` on, in which there is a fault, or the end.
@@ -75,6 +60,7 @@ pub fn flat(order: u32, from: usize, end: usize, slots: &[u32]) -> usize
         × ((j : ℕ) → from ≤ j → j < result → ClearAt order slots.now j) }
 {
     let mut i = from;
+    // A `while`: the stretches have different lengths.
     while i < end {
         let next = stretch_end(i, end);
         if faults(order, i, next, slots) {

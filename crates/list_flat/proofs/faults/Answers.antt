@@ -9,10 +9,10 @@ pub returns : goal.returns
 returns c = λ e j h l.
     let n = neither _ _ e in
     let far = n.1 in
-    stretch_clear c.args.slots.now c.loop-i.invariant.1 c.args.order n.0 (omega (arith, leb-false, c.area.ensures, c.corner.ensures)) j h (omega arith)
+    stretch_clear c.args.slots.now c.loop-i.invariant c.args.order n.0 (omega (arith, leb-false, c.area.ensures, c.corner.ensures)) j h (omega arith)
 
 pub loop-i-init : goal.loop-i-init
-loop-i-init c = (omega arith, stretch_start _ _ _ _)
+loop-i-init c = stretch_start _ _ _ _
 
 pub loop-i-preserved : goal.loop-i-preserved
-loop-i-preserved c = (omega arith, stretch_on c.args.slots.now c.loop-i.invariant.1 c.fault-bad.result c.fault-bad.ensures)
+loop-i-preserved c = stretch_on c.args.slots.now c.loop-i.invariant c.fault-bad.result c.fault-bad.ensures

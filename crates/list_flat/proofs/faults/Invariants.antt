@@ -1,10 +1,6 @@
 -- The loop keeps `Stretch`; at its end the corners of all words tell that each is on the bed.
-use Prim.Native.Nat.{◌-◌, ◌≤◌}
 use Rattle.list_flat.proofs.StretchLaws.{Stretch}
 use Rattle.list_flat.proofs.faults.Given as goal
 
 abbrev pub invariant-loop-i : goal.invariant-loop-i
-invariant-loop-i l = (l.from ≤ l.i) × Stretch l.slots l.from l.bad l.all l.i
-
-abbrev pub decreases-loop-i : goal.decreases-loop-i
-decreases-loop-i l = l.to - l.i
+invariant-loop-i l = Stretch l.slots l.from l.bad l.all l.i
