@@ -3,18 +3,18 @@
 --     around_asked_passed      what passes 1, 31 and 32; numberAsked-passed, what passes 1 and 32
 --     extentOf-refused, extentOf-measured, numberOf-refused, numberOf-found, aroundOf-refused, aroundOf-found,
 --     point_of_refused, point_of_found   the answers by how the checks end
-use mathlib.Core.Path.{◌≡◌, sym, ◌∙◌}
+use mathlib.Core.Path.{◌≡◌, sym}
 use Prim.Native.Nat.{ℕ, ◌^◌, ◌≤◌, ◌<◌}
 use native.Mathlib.Omega.{arith}
 use Rattle.basics.proofs.Tests.{test_leb}
 use Rattle.refusal.specs.Refusal.{accepted}
-use Rattle.refusal.proofs.CheckLaws.{must_inv, else_inv, unless_on, unless_off}
+use Rattle.refusal.proofs.CheckLaws.{must_inv, else_inv}
+use Rattle.refusal.proofs.RefusedLaws.{unless_passed}
 use Rattle.morton.specs.Morton.{morton, column, row, side_bits}
 use Rattle.morton.proofs.MortonLaws.{morton_wide, column_wide, row_wide}
 use Rattle.tile.specs.Tile.{highest_order, corner_at}
-use Rattle.checks.specs.Asked.{order_check}
 use Rattle.checks.proofs.AskedLaws.{order_passed, point_passed, block_passed}
-use Rattle.points.specs.Points.{extent_of, point_asked, number_of, around_asked, around_of, number_asked, point_of}
+use Rattle.points.specs.Points.{point_asked, number_of, around_asked, around_of, number_asked, point_of}
 
 pub record OnBed (n c r : ℕ) : Type 0 where
   pub order : n ≤ highest_order
@@ -44,44 +44,17 @@ number_asked_passed n z e =
 wide : {n c r : ℕ} → OnBed n c r → morton side_bits c r ≡ morton n c r
 wide {n} {c} {r} p = morton_wide n side_bits c r p.order p.column p.row
 
-module _ (n : ℕ) where
-  pub extent_of_refused : (x : ℕ) → x ≡ order_check n → (x ≡ accepted → ⊥) → record { number = x; side = 0; pixels = 0 } ≡ extent_of n
-  unfolding extent_of
-  extent_of_refused x e h = rw (← e) (sym (unless_off x _ _ h))
+-- the answers where the checks pass, as code computes them
+pub number_of_found : (n c r z : ℕ) → accepted ≡ point_asked n c r → z ≡ morton side_bits c r → record { number = accepted; morton = z } ≡ number_of n c r
+unfolding number_of
+number_of_found n c r z e ez = rw (ez, wide (point_asked_passed n c r (sym e))) (unless_passed _ _ e)
 
-  pub extent_of_measured : (x s a : ℕ) → x ≡ order_check n → x ≡ accepted → s ≡ 2 ^ n → a ≡ 4 ^ n → record { number = accepted; side = s; pixels = a } ≡ extent_of n
-  unfolding extent_of
-  extent_of_measured x s a e h es ea = rw (unless_on _ _ _ (sym e ∙ h), ← es, ← ea)
+pub around_of_found : (n c r k z d : ℕ) → accepted ≡ around_asked n c r k → z ≡ morton side_bits c r → d ≡ corner_at k z → record { number = accepted; corner = d; size = k } ≡ around_of n c r k
+unfolding around_of
+around_of_found n c r k z d e ez ed = rw (ed, ez, wide (around_asked_passed n c r k (sym e)).0) (unless_passed _ _ e)
 
-module _ (n c r : ℕ) where
-  pub number_of_refused : (x : ℕ) → x ≡ point_asked n c r → (x ≡ accepted → ⊥) → record { number = x; morton = 0 } ≡ number_of n c r
-  unfolding number_of
-  number_of_refused x e h = rw (← e) (sym (unless_off x _ _ h))
-
-  pub number_of_found : (x z : ℕ) → x ≡ point_asked n c r → x ≡ accepted → z ≡ morton side_bits c r → record { number = accepted; morton = z } ≡ number_of n c r
-  unfolding number_of
-  number_of_found x z e h ez =
-      let q = wide (point_asked_passed n c r (sym e ∙ h)) in
-      rw (unless_on _ _ _ (sym e ∙ h), ← q, ← ez)
-
-module _ (n c r k : ℕ) where
-  pub around_of_refused : (x : ℕ) → x ≡ around_asked n c r k → (x ≡ accepted → ⊥) → record { number = x; corner = 0; size = 0 } ≡ around_of n c r k
-  unfolding around_of
-  around_of_refused x e h = rw (← e) (sym (unless_off x _ _ h))
-
-  pub around_of_found : (x z d : ℕ) → x ≡ around_asked n c r k → x ≡ accepted → z ≡ morton side_bits c r → d ≡ corner_at k z → record { number = accepted; corner = d; size = k } ≡ around_of n c r k
-  unfolding around_of
-  around_of_found x z d e h ez ed =
-      let q = wide (around_asked_passed n c r k (sym e ∙ h)).0 in
-      rw (unless_on _ _ _ (sym e ∙ h), ← q, ← ez, ← ed)
-
-module _ (n z : ℕ) where
-  pub point_of_refused : (x : ℕ) → x ≡ number_asked n z → (x ≡ accepted → ⊥) → record { number = x; column = 0; row = 0 } ≡ point_of n z
-  unfolding point_of
-  point_of_refused x e h = rw (← e) (sym (unless_off x _ _ h))
-
-  pub point_of_found : (x c r : ℕ) → x ≡ number_asked n z → x ≡ accepted → c ≡ column side_bits z → r ≡ row side_bits z → record { number = accepted; column = c; row = r } ≡ point_of n z
-  unfolding point_of
-  point_of_found x c r e h ec er =
-      let p = number_asked_passed n z (sym e ∙ h) in
-      rw (unless_on _ _ _ (sym e ∙ h), ← column_wide n side_bits z p.0 p.1, ← row_wide n side_bits z p.0 p.1, ← ec, ← er)
+pub point_of_found : (n z c r : ℕ) → accepted ≡ number_asked n z → c ≡ column side_bits z → r ≡ row side_bits z → record { number = accepted; column = c; row = r } ≡ point_of n z
+unfolding point_of
+point_of_found n z c r e ec er =
+    let p = number_asked_passed n z (sym e) in
+    rw (ec, er, column_wide n side_bits z p.0 p.1, row_wide n side_bits z p.0 p.1) (unless_passed _ _ e)

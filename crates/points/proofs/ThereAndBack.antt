@@ -22,7 +22,7 @@ use Rattle.tile.specs.Tile.{highest_order, corner_at}
 use Rattle.bed.proofs.BedLaws.{test_block_in}
 use Rattle.checks.specs.Asked.{block_check}
 use Rattle.checks.proofs.AskedLaws.{order_inside, block_inside, block_passed, point_inside}
-use Rattle.points.specs.declared.Around.{Around}
+use Rattle.points.specs.declared.BlockAnswer.{BlockAnswer}
 use Rattle.points.specs.Points.{point_asked, number_of, around_asked, around_of, number_asked, point_of}
 use Rattle.points.proofs.PointsLaws.{point_asked_passed, around_asked_passed, number_asked_passed}
 
@@ -90,9 +90,9 @@ module _ (n k d c r : ℕ) (o : n ≤ highest_order) (h : k ≤ n) (m : Aligned 
   unfolding around_of
   around_in e =
       let z = morton highest_order c r in
-      let a = sym (unless_number (λ (x : Around). x.number) (around_asked highest_order c r k) (λ x. refl) refl) ∙ ap (λ (x : Around). x.number) e in
+      let a = sym (unless_number (λ (x : BlockAnswer). x.number) (around_asked highest_order c r k) (λ x. refl) refl) ∙ ap (λ (x : BlockAnswer). x.number) e in
       let p = (around_asked_passed highest_order c r k a).0 in
-      let g : corner_at k z ≡ d = ap (λ (x : Around). x.corner) (sym (unless_on (around_asked highest_order c r k) _ _ a) ∙ e) in
+      let g : corner_at k z ≡ d = ap (λ (x : BlockAnswer). x.corner) (sym (unless_on (around_asked highest_order c r k) _ _ a) ∙ e) in
       let b = corner_has k z in
       let i : z < 4 ^ n = omega (arith, b.1, aligned_room h m l) in
       let x : c < 2 ^ n = omega (arith, column_lt n z, column_wide n highest_order z o i, column_morton highest_order c r p.column) in

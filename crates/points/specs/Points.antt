@@ -11,12 +11,12 @@ use Rattle.refusal.specs.Checks.{must, or_else, unless}
 use Rattle.morton.specs.Morton.{morton, column, row}
 use Rattle.tile.specs.Tile.{corner_at}
 use Rattle.checks.specs.Asked.{order_check, point_check, block_check}
-use Rattle.points.specs.declared.Extent.{Extent}
-use Rattle.points.specs.declared.Numbered.{Numbered}
-use Rattle.points.specs.declared.Around.{Around}
-use Rattle.points.specs.declared.Point.{Point}
+use Rattle.points.specs.declared.ExtentAnswer.{ExtentAnswer}
+use Rattle.points.specs.declared.MortonAnswer.{MortonAnswer}
+use Rattle.points.specs.declared.BlockAnswer.{BlockAnswer}
+use Rattle.points.specs.declared.PointAnswer.{PointAnswer}
 
-unfoldable pub extent_of : ℕ → Extent
+unfoldable pub extent_of : ℕ → ExtentAnswer
 extent_of n =
     unless (order_check n)
     (λ number. record { number = number; side = 0; pixels = 0 })
@@ -25,7 +25,7 @@ extent_of n =
 unfoldable pub point_asked : ℕ → ℕ → ℕ → ℕ
 point_asked n c r = or_else (order_check n) (point_check n c r)
 
-unfoldable pub number_of : ℕ → ℕ → ℕ → Numbered
+unfoldable pub number_of : ℕ → ℕ → ℕ → MortonAnswer
 number_of n c r =
     unless (point_asked n c r)
     (λ number. record { number = number; morton = 0 })
@@ -34,7 +34,7 @@ number_of n c r =
 unfoldable pub around_asked : ℕ → ℕ → ℕ → ℕ → ℕ
 around_asked n c r k = or_else (point_asked n c r) (must (leb k n) block_invalid accepted)
 
-unfoldable pub around_of : ℕ → ℕ → ℕ → ℕ → Around
+unfoldable pub around_of : ℕ → ℕ → ℕ → ℕ → BlockAnswer
 around_of n c r k =
     unless (around_asked n c r k)
     (λ number. record { number = number; corner = 0; size = 0 })
@@ -43,7 +43,7 @@ around_of n c r k =
 unfoldable pub number_asked : ℕ → ℕ → ℕ
 number_asked n z = or_else (order_check n) (block_check n z 0)
 
-unfoldable pub point_of : ℕ → ℕ → Point
+unfoldable pub point_of : ℕ → ℕ → PointAnswer
 point_of n z =
     unless (number_asked n z)
     (λ number. record { number = number; column = 0; row = 0 })

@@ -1,25 +1,23 @@
 -- 1 and 31, then the size.
-use mathlib.Core.Path.{◌∙◌, sym}
-use native.Mathlib.Omega.{arith}
+use Rattle.std.proofs.Common.{rules, sym, ◌∙◌, arith}
 use Rattle.basics.proofs.Tests.{test_leb}
-use Rattle.refusal.proofs.CheckLaws.{must_on, must_off, else_on, else_off}
+use Rattle.refusal.proofs.CheckLaws.{must_on, must_off}
+use Rattle.refusal.proofs.RefusedLaws.{else_passed, else_refused}
 use Rattle.points.specs.Points.{around_asked}
 use Rattle.points.proofs.around_asked.Goals as goal
 
-pub returns-then-pointed-ne-ACCEPTED : goal.returns-then-pointed-ne-ACCEPTED
+pub returns-in_err-point_asked : goal.returns-in_err-point_asked
 unfolding around_asked
-returns-then-pointed-ne-ACCEPTED c = rw (sym c.point_asked-pointed.ensures) (sym (else_off _ _ c.if-pointed-ne-ACCEPTED.true))
+returns-in_err-point_asked c = search (rules, else_refused)
 
 pub returns-then-order-size : goal.returns-then-order-size
 unfolding around_asked
 returns-then-order-size c =
     let a = c.args in
-    sym (else_on _ _ (sym c.point_asked-pointed.ensures ∙ c.if-pointed-ne-ACCEPTED.false)
-    ∙ must_off _ _ (test_leb a.size a.order) (λ l. omega (arith, c.if-order-size.true)))
+    sym (else_passed _ c.in_ok-point_asked.ensures ∙ must_off _ _ (test_leb a.size a.order) (λ l. omega (arith, c.if-order-size.true)))
 
 pub returns : goal.returns
 unfolding around_asked
 returns c =
     let a = c.args in
-    sym (else_on _ _ (sym c.point_asked-pointed.ensures ∙ c.if-pointed-ne-ACCEPTED.false)
-    ∙ must_on _ _ (test_leb a.size a.order) c.if-order-size.false)
+    sym (else_passed _ c.in_ok-point_asked.ensures ∙ must_on _ _ (test_leb a.size a.order) c.if-order-size.false)

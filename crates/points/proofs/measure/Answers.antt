@@ -1,22 +1,20 @@
 -- Past 1 the side and the pixels fit into 32 bits.
-use native.Mathlib.Omega.{arith}
-use mathlib.Core.Path.{sym, ◌∙◌}
-use Rattle.checks.proofs.AskedLaws.{order_passed, shift_side}
-use Rattle.points.proofs.PointsLaws.{extent_of_refused, extent_of_measured}
+use Rattle.std.proofs.Common.{rules, sym, arith}
+use Rattle.refusal.proofs.RefusedLaws.{unless_passed, unless_refused}
+use Rattle.checks.proofs.AskedLaws.{order_passed}
+use Rattle.points.specs.Points.{extent_of}
 use Rattle.points.proofs.measure.Goals as goal
 
-pub returns-then-number-ne-ACCEPTED : goal.returns-then-number-ne-ACCEPTED
-returns-then-number-ne-ACCEPTED c = extent_of_refused c.args.order _ c.order-number.ensures c.if-number-ne-ACCEPTED.true
+pub returns-in_err-order : goal.returns-in_err-order
+unfolding extent_of
+returns-in_err-order c = search (rules, unless_refused)
 
 pub returns : goal.returns
-returns c =
-    let n = c.args.order in
-    let o = c.order-number.ensures in
-    let h = c.if-number-ne-ACCEPTED.false in
-    extent_of_measured n _ _ _ o h (shift_side n (order_passed n (sym o ∙ h))) c.area.ensures
+unfolding extent_of
+returns c = rw (c.side.ensures, c.area.ensures) (unless_passed _ _ c.in_ok-order.ensures)
 
-pub overflow_shl-result : goal.overflow_shl-result
-overflow_shl-result c = let h = order_passed c.args.order (sym c.order-number.ensures ∙ c.if-number-ne-ACCEPTED.false) in omega arith
+pub side-requires : goal.side-requires
+side-requires c = omega (arith, order_passed c.args.order (sym c.in_ok-order.ensures))
 
 pub area-requires : goal.area-requires
-area-requires c = let h = order_passed c.args.order (sym c.order-number.ensures ∙ c.if-number-ne-ACCEPTED.false) in omega arith
+area-requires c = omega (arith, order_passed c.args.order (sym c.in_ok-order.ensures))

@@ -1,13 +1,15 @@
 -- The number by all bits is that of the order.
-use Rattle.points.proofs.PointsLaws.{number_of_refused, number_of_found}
+use Rattle.std.proofs.Common.{rules}
+use Rattle.refusal.proofs.RefusedLaws.{unless_refused}
+use Rattle.points.specs.Points.{number_of}
+use Rattle.points.proofs.PointsLaws.{number_of_found}
 use Rattle.points.proofs.number_at.Goals as goal
 
-pub returns-then-number-ne-ACCEPTED : goal.returns-then-number-ne-ACCEPTED
-returns-then-number-ne-ACCEPTED c =
-    let a = c.args in
-    number_of_refused a.order a.column a.row _ c.point_asked-number.ensures c.if-number-ne-ACCEPTED.true
+pub returns-in_err-point_asked : goal.returns-in_err-point_asked
+unfolding number_of
+returns-in_err-point_asked c = search (rules, unless_refused)
 
 pub returns : goal.returns
 returns c =
     let a = c.args in
-    number_of_found a.order a.column a.row _ _ c.point_asked-number.ensures c.if-number-ne-ACCEPTED.false c.number.ensures
+    number_of_found a.order a.point.column a.point.row _ c.in_ok-point_asked.ensures c.number.ensures
