@@ -1,6 +1,6 @@
 -- Numbers of a band as the code computes them.
---     row_le, row_first                    the row of a place
---     many_small, many_shift, many_word    how many places a band has
+--     row_le, row_first         the row of a place
+--     many_small, many_shift    how many places a band has
 use mathlib.Core.Path.{◌≡◌, sym, ◌∙◌}
 use Prim.Native.Nat.{ℕ, ◌+◌, ◌*◌, ◌/◌, ◌%◌, ◌^◌, ◌≤◌}
 use native.Mathlib.Nat.{mul-le-mul_right, add-mul, div-add-mod', lt_of_mul-lt-mul_right}
@@ -23,9 +23,6 @@ many_small n k h l = let a : 2 ^ k ≤ 2 ^ n = pow_mono l in row_small n (2 ^ k)
 
 pub many_shift : (n k : ℕ) → n ≤ highest_order → k ≤ n → 2 ^ k * 2 ^ n % 2 ^ 64 ≡ many n k
 many_shift n k h l = omega (arith, many_small n k h l)
-
-pub many_word : (n k : ℕ) → n ≤ highest_order → k ≤ n → 2 ^ k * 2 ^ n % 2 ^ 32 ≡ many n k
-many_word n k h l = omega (arith, many_small n k h l)
 
 -- the row of a place
 module _ (n p : ℕ) (h : n ≤ highest_order) (l : p ≤ 4 ^ n) where

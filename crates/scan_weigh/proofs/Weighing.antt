@@ -1,13 +1,16 @@
 -- Bytes looked at in turn: the laws that the loops cite.
 --     quad_most, quads_most, pairs_most   sums that fit
 --     none_above                no byte yet
+--     range_above               bytes looked at as a slice
 --     pairs_room                the next pair of rows is there
 --     rows_join                 pairs of rows, and those behind them
 use mathlib.Core.Path.{◌≡◌, ap}
 use mathlib.Core.List.{List}
-use Prim.Native.Nat.{ℕ, ◌+◌, ◌*◌, ◌≤◌, ◌<◌}
+use Prim.Native.Nat.{ℕ, ◌+◌, ◌-◌, ◌*◌, ◌≤◌, ◌<◌}
 use native.Mathlib.Nat.{mul-le-mul_right, add-mul}
 use native.Mathlib.Omega.{arith}
+use lib.ListN.{length, take, drop, length-drop}
+use lib.Seq.{length-take-le, get_or-take, get_or-drop}
 use Rattle.scan_stretch.specs.Weight.{total}
 use Rattle.scan_stretch.proofs.Quads.{weight_most}
 use Rattle.scan_stretch.proofs.Totals.{total_most, total_add, total_same}
@@ -25,6 +28,14 @@ pairs_most bytes w q i h e = total_most (λ j. pair_from bytes w q (i + j * (2 *
 
 pub none_above : (bytes : List ℕ) (lo a : ℕ) → NoneAbove bytes lo lo a
 none_above bytes lo a i l u = absurd (omega arith)
+
+-- looked at as a slice
+pub range_above : (bytes : List ℕ) (lo hi a : ℕ) → hi ≤ length bytes → NoneAbove (take (hi - lo) (drop lo bytes)) 0 (length (take (hi - lo) (drop lo bytes))) a → NoneAbove bytes lo hi a
+range_above bytes lo hi a h w i l u =
+    let part = drop lo bytes in
+    let e : lo + (i - lo) ≡ i = omega arith in
+    let len : length (take (hi - lo) part) ≡ hi - lo = length-take-le (hi - lo) part (omega (arith, length-drop lo bytes)) in
+    rw (get_or-take (hi - lo) part (i - lo) 0 (omega arith), get_or-drop lo bytes (i - lo) 0, e) at (w (i - lo) (omega arith) (omega arith))
 
 pub pairs_room : (j h w at n : ℕ) → j < h → at + h * (2 * w) ≤ n → at + j * (2 * w) + 2 * w ≤ n
 pairs_room j h w at n l r = omega (arith, mul-le-mul_right (2 * w) (let s : j + 1 ≤ h = omega arith in s), add-mul j 1 (2 * w))

@@ -11,7 +11,7 @@ use Rattle.scan_band.proofs.put_band.Goals as goal
 pub returns : goal.returns
 returns c =
     let pre = c.requires in
-    let span = c.span-width in
+    let span = c.side-width in
     laying_done pre.band_fits c.loop-column.invariant (omega (arith, span.ensures))
 
 pub loop-column-init : goal.loop-column-init
@@ -20,23 +20,17 @@ loop-column-init c = laying_start _ _ _ _ _ _ _ _ c.requires.fits
 pub loop-column-preserved : goal.loop-column-preserved
 loop-column-preserved c =
     let pre = c.requires in
-    let span = c.span-width in
-    let span2 = c.span-step in
+    let span = c.side-width in
+    let span2 = c.side-step in
     let loop = c.loop-column in
-    let put-block = c.put_block-g in
+    let put-block = c.put_block-moved in
     rw (← span2.ensures) at (laying_more pre.band_fits loop.invariant (omega (arith, span.ensures)) _ refl _ put-block.result put-block.auto.slots put-block.ensures)
 
-pub span-width-requires : goal.span-width-requires
-span-width-requires c = c.requires.band_fits.order
-
-pub span-step-requires : goal.span-step-requires
-span-step-requires c = omega (arith, c.requires.band_fits.size, c.requires.band_fits.order)
-
-pub put_block-g-requires : goal.put_block-g-requires
-put_block-g-requires c =
+pub put_block-moved-requires : goal.put_block-moved-requires
+put_block-moved-requires c =
     let pre = c.requires in
     let args = c.args in
-    let span = c.span-width in
+    let span = c.side-width in
     let p = pre.band_fits in
     let l = c.loop-column in
     let block = laying_block p l.invariant (omega (arith, span.ensures)) _ refl in record {
@@ -57,14 +51,14 @@ pub overflow_add-column : goal.overflow_add-column
 overflow_add-column c =
     let args = c.args in
     let pre = c.requires in
-    let span = c.span-width in
-    let span2 = c.span-step in
-    let a : 2 ^ args.order ≤ 2 ^ highest_order = side_least pre.band_fits.order in
-    let b : 2 ^ args.size ≤ 2 ^ args.order = side_least pre.band_fits.size in
+    let span = c.side-width in
+    let span2 = c.side-step in
+    let a : 2 ^ args.feed.order ≤ 2 ^ highest_order = side_least pre.band_fits.order in
+    let b : 2 ^ args.size ≤ 2 ^ args.feed.order = side_least pre.band_fits.size in
     omega (arith, span.ensures, span2.ensures)
 
 pub loop-column-smaller : goal.loop-column-smaller
 loop-column-smaller c =
     let args = c.args in
-    let span2 = c.span-step in
+    let span2 = c.side-step in
     omega (arith, span2.ensures, pow_pos args.size)
