@@ -1,4 +1,5 @@
 -- The scan record, the plain bed, and lines of it worked.
+pub mod Kinds
 pub mod Places
 pub mod Bed
 pub mod Shown

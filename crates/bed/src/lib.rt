@@ -3,6 +3,7 @@
 
 ghost use Rattle.std.specs.Prelude.{◌≡◌, ◌^◌, ◌<◌, ◌≤◌};
 ghost use Rattle.tile.specs.Tile.{highest_order};
+ghost use Rattle.bed.specs.Kinds.{kind_of, kind_number};
 ghost use Rattle.bed.specs.Places.{scan_of, place_of};
 
 // A pixel of a bed, or a place for one, by its column and its row.
@@ -17,6 +18,27 @@ pub struct Point {
 pub enum Kind {
     Rows,
     Morton,
+}
+
+// The kind of a number in C: 0 is by rows, and any other in Morton order, which itself is 1.
+impl From<u32> for Kind {
+    ghost from_gives = { λ number kind. kind ≡ kind_of number };
+
+    fn from(number: u32) -> Kind {
+        if number == 0 {
+            Kind::Rows
+        } else {
+            Kind::Morton
+        }
+    }
+}
+
+impl From<Kind> for u32 {
+    ghost from_gives = { λ kind number. number ≡ kind_number kind };
+
+    fn from(kind: Kind) -> u32 {
+        kind as u32
+    }
 }
 
 impl Kind {

@@ -1,3 +1,4 @@
 -- The pixel rules.
 pub mod Accounts
 pub mod Rule
+pub mod Choices

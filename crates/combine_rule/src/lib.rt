@@ -4,6 +4,7 @@
 
 ghost use Rattle.std.specs.Prelude.{ℕ, ◌≡◌, ◌≤◌};
 ghost use Rattle.tile.specs.Tile.{highest_account};
+ghost use Rattle.combine_rule.specs.Choices.{choice_of};
 ghost use Rattle.combine_rule.specs.Rule.{rule_of, MakesAccounts};
 ghost use Rattle.combine_rule.specs.Accounts.{rule_accounts};
 
@@ -26,6 +27,19 @@ pub trait Rule {
 pub enum Choice {
     Inside,
     Outside,
+}
+
+// The choice of a number in C: 0 is inside, any other outside.
+impl From<u32> for Choice {
+    ghost from_gives = { λ number choice. choice ≡ choice_of number };
+
+    fn from(number: u32) -> Choice {
+        if number == 0 {
+            Choice::Inside
+        } else {
+            Choice::Outside
+        }
+    }
 }
 
 impl Rule for Choice {

@@ -246,3 +246,17 @@ pub fn check(order: u32, tiles: usize, slots: &[u32]) -> Result<Quadtree<'_>, Re
     check_words(order, 0, words)?;
     Ok(Quadtree { order, words })
 }
+
+// The same, with the first words checked in place: for calls on short lists, where a call would cost more.
+pub fn check_in_place(order: u32, tiles: usize, slots: &[u32]) -> Result<Quadtree<'_>, Refusal>
+    ensures number { said result ≡ list_check order tiles slots.now }
+    ensures tree { IfOk result (λ q. (q.order ≡ order) × (q.words.now ≡ take tiles slots.now)) }
+{
+    check_head(order, tiles, slots)?;
+    let words = &slots[..tiles];
+    if tiles <= HEAD {
+        return Ok(Quadtree { order, words });
+    }
+    check_words(order, HEAD, words)?;
+    Ok(Quadtree { order, words })
+}

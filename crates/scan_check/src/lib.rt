@@ -9,7 +9,6 @@ ghost use Rattle.tile.specs.Slots.{tiles};
 ghost use Rattle.quadtree.specs.Raster.{Aligned};
 ghost use Rattle.bed.specs.declared.Kind.TheVariants.{Rows};
 ghost use Rattle.bed.specs.Places.{scan_of, place_of, unscanned_in};
-ghost use Rattle.list_check.specs.ListCheck.{list_check};
 ghost use Rattle.scan_check.specs.Opening.{covers_unscanned, opening};
 ghost use Rattle.scan_check.specs.Standing.{Stands};
 ghost use Rattle.scan_check.specs.Scanned.{scanned_check, block_scanned_check, finished_check};
@@ -72,27 +71,13 @@ fn covers_unscanned(scan: Scan, tree: Quadtree) -> bool
     }
 }
 
-// The list's checks, the first words' in place: a call would cost more.
-fn open_list(order: u32, tiles: usize, slots: &[u32]) -> Result<Quadtree<'_>, Refusal>
-    ensures number { said result ≡ list_check order tiles slots.now }
-    ensures tree { IfOk result (λ q. (q.order ≡ order) × (q.words.now ≡ take tiles slots.now)) }
-{
-    list_check::check_head(order, tiles, slots)?;
-    let words = &slots[..tiles];
-    if tiles <= list_check::HEAD {
-        return Ok(Quadtree { order, words });
-    }
-    list_check::check_words(order, list_check::HEAD, words)?;
-    Ok(Quadtree { order, words })
-}
-
 // The opening checks: 1, 2 and 11 to 16 of the list, then 21 and 22 of the record. Once all pixels are scanned, no list
 // meets 22. They answer the list.
 pub fn open_check(scan: Scan, slots: &[u32]) -> Result<Quadtree<'_>, Refusal>
     ensures number { said result ≡ opening scan slots.now }
     ensures tree { IfOk result (λ q. (q.order ≡ scan.order) × (q.words.now ≡ take scan.tiles slots.now)) }
 {
-    let tree = open_list(scan.order, scan.tiles, slots)?;
+    let tree = list_check::check_in_place(scan.order, scan.tiles, slots)?;
     let area = tile::area(scan.order);
     if area < scan.pixels {
         return Err(Refusal::ScannedTooLarge);

@@ -5,7 +5,7 @@ use Rattle.std.proofs.lemmas.Result.{err_from_is_err_and}
 use Rattle.refusal.proofs.RefusedLaws.{number_some}
 use Rattle.list_check.proofs.HeadLaws.{begun_ready}
 use Rattle.list_check.proofs.TreeLaws.{tree_passes}
-use Rattle.scan_check.proofs.open_list.Goals as goal
+use Rattle.list_check.proofs.check_in_place.Goals as goal
 
 pub returns-in_err-check_head-clause-number : goal.returns-in_err-check_head-clause-number
 returns-in_err-check_head-clause-number c =
