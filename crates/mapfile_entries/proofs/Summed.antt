@@ -13,7 +13,8 @@ use Rattle.basics.proofs.Tests.{Test, holds, fails, test_leb, test_eqb, test_and
 use Rattle.basics.proofs.ChoiceLaws.{if_yes, if_no}
 use Rattle.tile.specs.declared.Tile.{Tile}
 use Rattle.quadtree.proofs.Alignment.{area_pos}
-use Rattle.mapfile_roster.specs.Roster.{covered, Entry, listed, entry_good, entries_good, tiles_listed, roster_good}
+use Rattle.mapfile_roster.specs.declared.Entry.{Entry}
+use Rattle.mapfile_roster.specs.Roster.{covered, listed, entry_good, entries_good, tiles_listed, roster_good}
 use Rattle.mapfile_roster.proofs.RosterLaws.{ByAccount}
 use Rattle.mapfile_roster.proofs.GoodLaws.{listed_some}
 use Rattle.mapfile_roster.proofs.RisingLaws.{listed_few}

@@ -11,7 +11,8 @@ use Rattle.refusal.specs.Checks.{must, or_else}
 use Rattle.tile.specs.declared.Tile.{Tile}
 use Rattle.mapfile_bytes.specs.Layout.{entries_place, entry_length, roster_length}
 use Rattle.mapfile_bytes.specs.Items.{word_at}
-use Rattle.mapfile_roster.specs.Roster.{Entry, roster_good}
+use Rattle.mapfile_roster.specs.declared.Entry.{Entry}
+use Rattle.mapfile_roster.specs.Roster.{roster_good}
 
 unfoldable pub entries_at : ℕ → List ℕ → ℕ → List Entry
 entries_at zero rs p = []

@@ -3,159 +3,101 @@
 // which there are some, and together they have those of all tiles.
 #![tactic(auto)]
 
-ghost use Rattle.std.specs.Prelude.{◌≡◌, map, ◌+◌, ◌≤◌, length, get_or};
-ghost use Rattle.refusal.specs.Refusal.{accepted};
-ghost use Rattle.tile.specs.Tile.{tile_of, highest_order};
-ghost use Rattle.quadtree.specs.Valid.{Valid};
-ghost use Rattle.mapfile_bytes.specs.Layout.{words_place, roster_place, entries_place, entry_length, roster_length};
-ghost use Rattle.mapfile_bytes.specs.Items.{word_at, words_at};
-ghost use Rattle.mapfile_roster.specs.Roster.{covered, roster_good};
-ghost use Rattle.mapfile_entries.specs.RosterCheck.{entries_at, entries_check, roster_check};
-ghost use Rattle.mapfile_entries.specs.Pixels.{area_of, pixels_in, entry_right, entries_right};
+ghost use Rattle.std.specs.Prelude.{◌≡◌, ℕ, ◌^◌, ◌<◌, ◌≤◌, ◌↔◌, IsTrue, All, sum_by, length, map};
+ghost use Rattle.refusal.specs.Refused.{said};
+ghost use Rattle.mapfile_roster.specs.Roster.{covered, entry_in, roster_good};
+ghost use Rattle.mapfile_entries.specs.RosterCheck.{roster_check};
+ghost use Rattle.mapfile_entries.specs.Pixels.{file_tiles, area_of, pixels_in, rises, entry_right, entries_right};
 
-// The entries in turn, each where the bytes have it: every account is above the one ahead of it. `least` is the least
-// account that is, wider than an account, so that it can pass the highest byte.
-fn entries_rise(entries: usize, section: &[u8]) -> u32
-    requires { entries_place ≤ length section.now }
-    ensures { result ≡ entries_check entries 0 section.now entries_place }
+use mapfile_bytes::ENTRY_LENGTH;
+use mapfile_roster::Entry;
+use refusal::{Checked, Refusal};
+
+// The tiles of a file by their words, no account of which covers more than a number holds, and the pixels of all of
+// them.
+#[derive(Clone, Copy)]
+pub struct Tiles<'a> {
+    pub words: &'a [[u8; 4]],
+    pub area: u32,
+    pub ghost fits: { (a : ℕ) → covered a (file_tiles words.now) < 2 ^ 32 },
+    pub ghost sums: { area ≡ area_of (file_tiles words.now) },
+}
+
+impl<'a> Tiles<'a> {
+    // The entry has the pixels of its account, of which there are some.
+    fn right(&self, entry: Entry) -> bool
+        ensures { result ≡ entry_right (file_tiles self.now.words.now) entry }
+    {
+        let pixels = mapfile_roster::covered(entry.account, self.words);
+        pixels != 0 && entry.pixels == pixels
+    }
+
+    // Every entry does.
+    fn all_right(&self, entries: &[[u8; 5]]) -> bool
+        ensures { IsTrue result ↔ All (λ e. IsTrue (entry_right (file_tiles self.now.words.now) (entry_in e))) entries.now }
+    {
+        entries.iter().all(|entry| self.right(Entry::from(*entry)))
+    }
+
+    // Entries that rise are the roster of the tiles: together they have the pixels of all tiles, and each has those of
+    // its account, of which there are some.
+    fn listed_by(&self, entries: &[[u8; 5]]) -> bool
+        requires few { length entries.now ≤ 255 }
+        requires rise { IsTrue (rises 0 (map entry_in entries.now)) }
+        ensures { result ≡ roster_good (file_tiles self.now.words.now) (map entry_in entries.now) }
+    {
+        pixels_in(entries) == self.area as usize && self.all_right(entries)
+    }
+
+    // The roster section of a file of the tiles: 41 for its count, then 41 and 54 entry by entry, 42, 43.
+    pub fn check(&self, section: &[u8]) -> Checked
+        ensures { said result ≡ roster_check (file_tiles self.now.words.now) section.now }
+    {
+        let Some((count, entries)) = section.split_first() else {
+            return Err(Refusal::FileCutShort);
+        };
+        let count = *count as usize;
+        let (whole, _) = entries.as_chunks::<ENTRY_LENGTH>();
+        let listed = &whole[..count.min(whole.len())];
+        if !rising(listed) {
+            return Err(Refusal::RosterUnsorted);
+        }
+        if whole.len() < count {
+            return Err(Refusal::FileCutShort);
+        }
+        if ENTRY_LENGTH * count < entries.len() {
+            return Err(Refusal::TrailingBytes);
+        }
+        if !self.listed_by(listed) {
+            return Err(Refusal::RosterWrong);
+        }
+        Ok(())
+    }
+}
+
+// Every entry's account is above the one ahead of it. `least` is the least account that is, wider than an account, so
+// that it can pass the highest byte. By hand, since the proof of std's `is_sorted_by` did not close.
+fn rising(entries: &[[u8; 5]]) -> bool
+    ensures { result ≡ rises 0 (map entry_in entries.now) }
 {
     let mut least = 0;
-    let mut j = 0;
-    let mut p = mapfile_bytes::ENTRIES_PLACE;
-    while j < entries {
-        if section.len() - p < mapfile_bytes::ENTRY_LENGTH {
-            return refusal::FILE_CUT_SHORT;
-        }
-        let account = mapfile_bytes::wide(section[p]);
+    for entry in entries {
+        let account = u32::from(Entry::from(*entry).account);
         if account < least {
-            return refusal::ROSTER_UNSORTED;
-        }
-        least = account + 1;
-        j += 1;
-        p += mapfile_bytes::ENTRY_LENGTH;
-    }
-    refusal::ACCEPTED
-}
-
-// The pixels that an account covers.
-fn total(account: u8, order: u32, tiles: usize, file: &[u8]) -> u32
-    requires { (order ≤ highest_order) × (roster_place tiles ≤ length file.now)
-        × Valid order (map tile_of (words_at tiles file.now words_place)) }
-    ensures { result ≡ covered account (map tile_of (words_at tiles file.now words_place)) }
-{
-    let mut sum = 0;
-    let mut i = 0;
-    let mut p = mapfile_bytes::WORDS_PLACE;
-    while i < tiles {
-        sum += mapfile_roster::share(account, mapfile_bytes::word_at(file, p));
-        i += 1;
-        p += mapfile_bytes::WORD_LENGTH;
-    }
-    sum
-}
-
-// The entry at `p` has the pixels of its account, of which there are some.
-fn entry_right(order: u32, tiles: usize, file: &[u8], section: &[u8], p: usize) -> bool
-    requires { (order ≤ highest_order) × (roster_place tiles ≤ length file.now)
-        × Valid order (map tile_of (words_at tiles file.now words_place)) × (p + entry_length ≤ length section.now) }
-    ensures { result ≡ entry_right (map tile_of (words_at tiles file.now words_place))
-        (record { account = get_or section.now p 0; pixels = word_at section.now (p + 1) }) }
-{
-    let pixels = total(section[p], order, tiles, file);
-    if pixels == 0 {
-        return false;
-    }
-    if mapfile_bytes::word_at(section, p + 1) != pixels {
-        return false;
-    }
-    true
-}
-
-// Every entry does.
-fn entries_right(order: u32, tiles: usize, file: &[u8], entries: usize, section: &[u8]) -> bool
-    requires { (order ≤ highest_order) × (roster_place tiles ≤ length file.now)
-        × Valid order (map tile_of (words_at tiles file.now words_place))
-        × (roster_length entries ≤ length section.now) }
-    ensures { result ≡ entries_right (map tile_of (words_at tiles file.now words_place))
-        (entries_at entries section.now entries_place) }
-{
-    let mut j = 0;
-    let mut p = mapfile_bytes::ENTRIES_PLACE;
-    while j < entries {
-        let right = entry_right(order, tiles, file, section, p);
-        if !right {
             return false;
         }
-        j += 1;
-        p += mapfile_bytes::ENTRY_LENGTH;
+        least = account + 1;
     }
     true
 }
 
 // The pixels that the entries say they have, together: at most 255 numbers of 32 bits.
-fn entries_sum(entries: usize, section: &[u8]) -> usize
-    requires { (entries ≤ 255) × (roster_length entries ≤ length section.now) }
-    ensures { result ≡ pixels_in (entries_at entries section.now entries_place) }
+fn pixels_in(entries: &[[u8; 5]]) -> usize
+    requires { length entries.now ≤ 255 }
+    ensures { result ≡ sum_by (λ e. (entry_in e).pixels) entries.now }
 {
-    let mut sum = 0;
-    let mut j = 0;
-    let mut p = mapfile_bytes::ENTRIES_PLACE;
-    while j < entries {
-        sum += mapfile_bytes::long(mapfile_bytes::word_at(section, p + 1));
-        j += 1;
-        p += mapfile_bytes::ENTRY_LENGTH;
-    }
-    sum
-}
-
-// The entries of a section, which rise, are the roster of the tiles: together they have the pixels of all tiles, and
-// each has those of its account, of which there are some.
-fn roster_good(
-    order: u32,
-    tiles: usize,
-    area: u32,
-    file: &[u8],
-    entries: usize,
-    section: &[u8],
-) -> bool
-    requires { (order ≤ highest_order) × (roster_place tiles ≤ length file.now)
-        × Valid order (map tile_of (words_at tiles file.now words_place))
-        × (area ≡ area_of (map tile_of (words_at tiles file.now words_place))) × (entries ≤ 255)
-        × (roster_length entries ≤ length section.now)
-        × (entries_check entries 0 section.now entries_place ≡ accepted) }
-    ensures { result ≡ roster_good (map tile_of (words_at tiles file.now words_place))
-        (entries_at entries section.now entries_place) }
-{
-    if entries_sum(entries, section) != mapfile_bytes::long(area) {
-        return false;
-    }
-    entries_right(order, tiles, file, entries, section)
-}
-
-// The first refusal of the roster section of a file whose words are a valid list, with the pixels of all its tiles, or
-// that it is accepted.
-pub fn check(order: u32, tiles: usize, area: u32, file: &[u8], section: &[u8]) -> u32
-    requires { (order ≤ highest_order) × (roster_place tiles ≤ length file.now)
-        × Valid order (map tile_of (words_at tiles file.now words_place))
-        × (area ≡ area_of (map tile_of (words_at tiles file.now words_place))) }
-    ensures { result ≡ roster_check (map tile_of (words_at tiles file.now words_place))
-        section.now }
-{
-    if section.len() < 1 {
-        return refusal::FILE_CUT_SHORT;
-    }
-    let entries = mapfile_bytes::long(mapfile_bytes::wide(section[0]));
-    let number = entries_rise(entries, section);
-    if number != refusal::ACCEPTED {
-        return number;
-    }
-    let end = mapfile_bytes::ENTRIES_PLACE + mapfile_bytes::ENTRY_LENGTH * entries;
-    if end < section.len() {
-        return refusal::TRAILING_BYTES;
-    }
-    let good = roster_good(order, tiles, area, file, entries, section);
-    if !good {
-        return refusal::ROSTER_WRONG;
-    }
-    refusal::ACCEPTED
+    entries
+        .iter()
+        .map(|entry| Entry::from(*entry).pixels as usize)
+        .sum()
 }

@@ -20,7 +20,8 @@ use Rattle.tile.specs.Tile.{word_of}
 use Rattle.quadtree.specs.Raster.{◌∈◌}
 use Rattle.mapfile_bytes.specs.Items.{word_at, words_at}
 use Rattle.mapfile_bytes.proofs.ItemsLaws.{word_at_drop, word_whole}
-use Rattle.mapfile_roster.specs.Roster.{Entry, roster_good}
+use Rattle.mapfile_roster.specs.declared.Entry.{Entry}
+use Rattle.mapfile_roster.specs.Roster.{roster_good}
 use Rattle.mapfile_roster.proofs.RosterLaws.{ByAccount, link, by_account_down}
 use Rattle.mapfile_entries.specs.RosterCheck.{entries_at, entries_check, roster_check}
 use Rattle.mapfile_sections.specs.Sections.{word_bytes, words_bytes, entries_bytes}

@@ -42,7 +42,8 @@ use Rattle.scan_check.proofs.ScannedLaws.{finished_passed, finished_refused, fin
 use Rattle.scan_check.proofs.Opening.{opening_opened}
 use Rattle.mapfile_bytes.specs.Items.{word_at, words_at}
 use Rattle.mapfile_bytes.proofs.ItemsLaws.{word_whole}
-use Rattle.mapfile_roster.specs.Roster.{Entry, roster_of}
+use Rattle.mapfile_roster.specs.declared.Entry.{Entry}
+use Rattle.mapfile_roster.specs.Roster.{roster_of}
 use Rattle.mapfile_roster.proofs.CoveredLaws.{covered_fits}
 use Rattle.mapfile_roster.proofs.RosterLaws.{roster_of_rising, roster_of_good, roster_of_pixels}
 use Rattle.mapfile_read.specs.Reader.{file_order, file_count, file_check, read_of}

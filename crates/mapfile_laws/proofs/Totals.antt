@@ -39,7 +39,8 @@ use Rattle.bed.specs.Places.{place_of, pixel_at, rows}
 use Rattle.bed.proofs.PlaceLaws.{pixel_at_lt, place_of_lt, place_of_pixel_at, pixel_at_place_of, rows_cong}
 use Rattle.decode.specs.Decode.{decode_of}
 use Rattle.decode.proofs.DecodeLaws.{decode_of_filled}
-use Rattle.mapfile_roster.specs.Roster.{covered, Entry, listed, roster_good}
+use Rattle.mapfile_roster.specs.declared.Entry.{Entry}
+use Rattle.mapfile_roster.specs.Roster.{covered, listed, roster_good}
 use Rattle.mapfile_roster.proofs.CoveredLaws.{covered_pixels, covered_nobody}
 use Rattle.mapfile_roster.proofs.GoodLaws.{Right, test_good, listed_some}
 use Rattle.mapfile_roster.proofs.RosterLaws.{roster_of_good}

@@ -21,7 +21,8 @@ use Rattle.bed.specs.declared.Scan.{Scan}
 use Rattle.bed.specs.Places.{rows}
 use Rattle.decode.specs.Decode.{decode_of}
 use Rattle.mapfile_bytes.specs.Layout.{roster_place, entries_place}
-use Rattle.mapfile_roster.specs.Roster.{covered, Entry, listed, roster_good}
+use Rattle.mapfile_roster.specs.declared.Entry.{Entry}
+use Rattle.mapfile_roster.specs.Roster.{covered, listed, roster_good}
 use Rattle.mapfile_entries.specs.RosterCheck.{entries_at}
 use Rattle.mapfile_read.specs.Reader.{file_order, file_count, file_words, file_check, read_of}
 use Rattle.mapfile_write.specs.Writer.{write_check, write_of}

@@ -15,7 +15,8 @@ use Rattle.basics.proofs.Tests.{Test, holds, fails, test_leb, test_eqb, test_and
 use Rattle.basics.proofs.ChoiceLaws.{if_yes, if_no}
 use Rattle.tile.specs.declared.Tile.{Tile}
 use Rattle.quadtree.specs.Raster.{◌∈◌}
-use Rattle.mapfile_roster.specs.Roster.{covered, Entry, listed, entry_good, entries_good, tiles_listed, roster_good}
+use Rattle.mapfile_roster.specs.declared.Entry.{Entry}
+use Rattle.mapfile_roster.specs.Roster.{covered, listed, entry_good, entries_good, tiles_listed, roster_good}
 use Rattle.mapfile_roster.proofs.CoveredLaws.{covered_some, covered_none}
 
 pub record Right (ts : List Tile) (es : List Entry) : Type 0 where

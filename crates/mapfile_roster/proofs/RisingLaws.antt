@@ -16,7 +16,8 @@ use Rattle.tile.specs.declared.Tile.{Tile}
 use Rattle.tile.specs.Tile.{highest_account}
 use Rattle.quadtree.specs.Raster.{◌∈◌}
 use Rattle.quadtree.specs.Valid.{Valid}
-use Rattle.mapfile_roster.specs.Roster.{covered, Entry, roster_of, listed}
+use Rattle.mapfile_roster.specs.declared.Entry.{Entry}
+use Rattle.mapfile_roster.specs.Roster.{covered, roster_of, listed}
 use Rattle.mapfile_roster.proofs.RosterLaws.{ByAccount, end, link, roster_of_rising, roster_of_good}
 use Rattle.mapfile_roster.proofs.GoodLaws.{Right, test_good, listed_some}
 

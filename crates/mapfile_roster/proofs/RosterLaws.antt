@@ -27,7 +27,8 @@ use Rattle.tile.specs.Tile.{highest_account}
 use Rattle.quadtree.specs.Raster.{◌∈◌}
 use Rattle.quadtree.specs.Valid.{Valid}
 use Rattle.quadtree.proofs.ValidLaws.{valid_quadrant}
-use Rattle.mapfile_roster.specs.Roster.{covered, Entry, roster_from, roster_of, listed, entry_good, entries_good, tiles_listed, roster_good}
+use Rattle.mapfile_roster.specs.declared.Entry.{Entry}
+use Rattle.mapfile_roster.specs.Roster.{covered, roster_from, roster_of, listed, entry_good, entries_good, tiles_listed, roster_good}
 use Rattle.mapfile_roster.proofs.CoveredLaws.{covered_some, covered_nobody}
 
 pub data ByAccount : ℕ → List Entry → Type 0 where

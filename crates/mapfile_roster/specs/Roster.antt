@@ -1,23 +1,24 @@
 -- The roster of a map file (document 01, "The map file"): each account of the tiles once, with the pixels it covers, by
 -- rising account (document 02, request 7). Definitions only.
 --     covered a ts         how many pixels the tiles of account a cover
---     Entry                an account and its pixels
+--     entry_in bs           the entry in its 5 bytes
 --     roster_of ts          the roster, by rising account
 --     listed a es          how many entries are the account's
 --     roster_good ts es     each entry has an account of the tiles with its pixels, and is its only one; each tile's
 --                          account has an entry. Where the entries stand does not matter here: it is checked ahead
-use Rattle.std.specs.Prelude.{Bool, true, ◌&&◌, List, [], ◌∷◌, ℕ, zero, suc, ◌+◌, ◌^◌, ltb, eqb}
+use Rattle.std.specs.Prelude.{Bool, true, ◌&&◌, List, [], ◌∷◌, ℕ, zero, suc, ◌+◌, ◌^◌, ltb, eqb, get_or}
 use Rattle.basics.specs.Choice.{if}
 use Rattle.tile.specs.declared.Tile.{Tile}
 use Rattle.tile.specs.Tile.{highest_account}
+use Rattle.mapfile_bytes.specs.Items.{word_at}
+use Rattle.mapfile_roster.specs.declared.Entry.{Entry}
 
 unfoldable pub covered : ℕ → List Tile → ℕ
 covered a [] = 0
 covered a (t ∷ ts) = if (eqb t.account a) (4 ^ t.size) 0 + covered a ts
 
-pub record Entry : Type 0 where
-  pub account : ℕ
-  pub pixels : ℕ
+abbrev pub entry_in : List ℕ → Entry
+entry_in bs = record { account = get_or bs 0 0; pixels = word_at bs 1 }
 
 -- the entries of those of the k accounts from a on that have tiles
 unfoldable pub roster_from : List Tile → ℕ → ℕ → List Entry

@@ -12,6 +12,27 @@ use mapfile_bytes::Word;
 // Somebody's accounts go from it to the highest.
 pub const LOWEST_ACCOUNT: u8 = 1;
 
+// An entry of a roster: an account and the pixels that it covers.
+#[derive(Clone, Copy, Debug, PartialEq, Eq)]
+pub struct Entry {
+    pub account: u8,
+    pub pixels: u32,
+}
+
+// The entry in its bytes in a file.
+impl From<[u8; 5]> for Entry {
+    ghost use Rattle.mapfile_roster.specs.Roster.{entry_in};
+
+    ghost from_gives = { λ bytes e. e ≡ entry_in bytes };
+
+    fn from(bytes: [u8; 5]) -> Entry {
+        Entry {
+            account: bytes[0],
+            pixels: mapfile_bytes::word_at(&bytes, 1),
+        }
+    }
+}
+
 // A set of accounts, a bit for each: no other crate knows the bits.
 #[derive(Clone, Copy, Debug, PartialEq, Eq)]
 pub struct Accounts {

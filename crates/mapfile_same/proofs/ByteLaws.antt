@@ -18,7 +18,8 @@ use Rattle.quadtree.specs.Raster.{◌∈◌}
 use Rattle.quadtree.specs.Valid.{Valid}
 use Rattle.quadtree.proofs.Alignment.{area_mono}
 use Rattle.quadtree.proofs.ValidLaws.{valid_length}
-use Rattle.mapfile_roster.specs.Roster.{Entry, covered, roster_from, roster_of}
+use Rattle.mapfile_roster.specs.declared.Entry.{Entry}
+use Rattle.mapfile_roster.specs.Roster.{covered, roster_from, roster_of}
 use Rattle.mapfile_roster.proofs.CoveredLaws.{covered_fits}
 use Rattle.mapfile_roster.proofs.RosterLaws.{roster_of_few}
 use Rattle.mapfile_sections.specs.Sections.{word_bytes, words_bytes, entries_bytes}

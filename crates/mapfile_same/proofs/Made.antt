@@ -11,7 +11,8 @@ use lib.Seq.{drop-cons, drop-length}
 use Rattle.tile.specs.Tile.{tile_of}
 use Rattle.tile.proofs.SlotsLaws.{words_tiles}
 use Rattle.mapfile_bytes.specs.Items.{word_at, words_at}
-use Rattle.mapfile_roster.specs.Roster.{Entry, roster_of}
+use Rattle.mapfile_roster.specs.declared.Entry.{Entry}
+use Rattle.mapfile_roster.specs.Roster.{roster_of}
 use Rattle.mapfile_entries.specs.RosterCheck.{entries_at}
 use Rattle.mapfile_read.specs.Reader.{file_order, file_count, file_words}
 use Rattle.mapfile_read.proofs.ReaderLaws.{tiles_check_valid}

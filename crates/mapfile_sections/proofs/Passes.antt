@@ -20,7 +20,8 @@ use Rattle.basics.proofs.Tests.{test_leb}
 use Rattle.basics.proofs.ChoiceLaws.{if_yes, if_no}
 use Rattle.tile.specs.declared.Tile.{Tile}
 use Rattle.tile.specs.Tile.{highest_account}
-use Rattle.mapfile_roster.specs.Roster.{covered, Entry, roster_from}
+use Rattle.mapfile_roster.specs.declared.Entry.{Entry}
+use Rattle.mapfile_roster.specs.Roster.{covered, roster_from}
 use Rattle.mapfile_sections.specs.OneEntry.{entry_of}
 use Rattle.mapfile_sections.specs.Sections.{word_bytes, entries_bytes}
 use Rattle.mapfile_sections.proofs.Puts.{sets_append}

@@ -5,7 +5,7 @@
 --     entries_bytes es   roster entries in 5 bytes each
 --     roster_bytes es    the roster section: its count, and its entries
 use Rattle.std.specs.Prelude.{List, [], ◌∷◌, ◌++◌, ℕ, ◌/◌, ◌%◌, ◌^◌, length}
-use Rattle.mapfile_roster.specs.Roster.{Entry}
+use Rattle.mapfile_roster.specs.declared.Entry.{Entry}
 
 abbrev pub word_bytes : ℕ → List ℕ
 word_bytes w = w / 2 ^ 24 ∷ w / 2 ^ 16 % 256 ∷ w / 2 ^ 8 % 256 ∷ w % 256 ∷ []

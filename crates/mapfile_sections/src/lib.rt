@@ -12,7 +12,7 @@ ghost use Rattle.mapfile_sections.specs.OneEntry.{entry_of};
 ghost use Rattle.mapfile_sections.specs.Sections.{word_bytes, words_bytes, entries_bytes, roster_bytes};
 
 use mapfile_bytes::{ENTRIES_PLACE, ENTRY_LENGTH, WORD_LENGTH, WORDS_PLACE};
-use mapfile_roster::{Accounts, LOWEST_ACCOUNT};
+use mapfile_roster::{Accounts, Entry, LOWEST_ACCOUNT};
 
 // A number into the 4 bytes from `at` on, high byte first.
 pub fn put(file: &mut [u8], at: usize, w: u32)
@@ -43,12 +43,13 @@ fn tiled(words: &[u32]) -> Accounts
     set
 }
 
-// The entry of an account that covers pixels into the bytes from `p` on; answers where the next one goes.
-fn put_entry(file: &mut [u8], p: usize, account: u8, pixels: u32) -> usize
-    requires { p + entry_length * length (entry_of account pixels) ≤ length file.old }
-    ensures next { result ≡ p + entry_length * length (entry_of account pixels) }
-    ensures stored { file.new ≡ sets file.old p (entries_bytes (entry_of account pixels)) }
+// An entry into the bytes from `p` on, if its account covers pixels; answers where the next one goes.
+fn put_entry(file: &mut [u8], p: usize, entry: Entry) -> usize
+    requires { p + entry_length * length (entry_of entry.account entry.pixels) ≤ length file.old }
+    ensures next { result ≡ p + entry_length * length (entry_of entry.account entry.pixels) }
+    ensures stored { file.new ≡ sets file.old p (entries_bytes (entry_of entry.account entry.pixels)) }
 {
+    let Entry { account, pixels } = entry;
     if pixels == 0 {
         return p;
     }
@@ -103,7 +104,8 @@ impl<'a> Roster<'a> {
         section[0] = self.len() as u8;
         let mut place = ENTRIES_PLACE;
         for account in LOWEST_ACCOUNT..=tile::HIGHEST_ACCOUNT {
-            place = put_entry(section, place, account, self.pixels(account));
+            let pixels = self.pixels(account);
+            place = put_entry(section, place, Entry { account, pixels });
         }
     }
 }

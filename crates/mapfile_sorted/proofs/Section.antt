@@ -20,7 +20,8 @@ use Rattle.refusal.specs.Refusal.{accepted, file_cut_short, trailing_bytes, rost
 use Rattle.refusal.specs.Checks.{must, or_else}
 use Rattle.refusal.proofs.CheckLaws.{must_on, must_off, must_other, must_not, else_on, else_off, else_not}
 use Rattle.tile.specs.declared.Tile.{Tile}
-use Rattle.mapfile_roster.specs.Roster.{Entry, roster_good}
+use Rattle.mapfile_roster.specs.declared.Entry.{Entry}
+use Rattle.mapfile_roster.specs.Roster.{roster_good}
 use Rattle.mapfile_entries.specs.RosterCheck.{entries_at, entries_check, roster_check}
 use Rattle.mapfile_entries.proofs.EntriesInTurn.{rise_room, rise_other}
 use Rattle.mapfile_entries.proofs.SectionLaws.{Compared, behind_entries, behind_all, compared}

@@ -23,8 +23,8 @@ loop-account-preserved c =
     let ts : List Tile = map tile_of c.args.self.now.words.now in
     let entry = c.put_entry-place in (
       search rules,
-      omega (arith, l.invariant.1, entry.ensures.next, entries_room ts l.account c.pixels.result (omega arith) c.pixels.ensures),
-      entries_on ts l.account l.place l.section l.invariant.2 _ c.pixels.result entry.result (omega arith) c.pixels.ensures entry.ensures.next entry.ensures.stored,
+      omega (arith, l.invariant.1, entry.ensures.next, entries_room ts l.account c.pixels-pixels.result (omega arith) c.pixels-pixels.ensures),
+      entries_on ts l.account l.place l.section l.invariant.2 _ c.pixels-pixels.result entry.result (omega arith) c.pixels-pixels.ensures entry.ensures.next entry.ensures.stored,
     )
 
 pub returns : goal.returns
@@ -39,4 +39,4 @@ overflow_cast-section c = omega (arith, c.len.ensures, roster_of_few (map tile_o
 pub put_entry-place-requires : goal.put_entry-place-requires
 put_entry-place-requires c =
     let l = c.loop-account in
-    omega (arith, l.invariant.1, entries_room (map tile_of c.args.self.now.words.now) l.account c.pixels.result (omega arith) c.pixels.ensures)
+    omega (arith, l.invariant.1, entries_room (map tile_of c.args.self.now.words.now) l.account c.pixels-pixels.result (omega arith) c.pixels-pixels.ensures)
