@@ -3,16 +3,17 @@
 --     inside_le        those ahead of the block and those inside it are ahead of its stop
 --     inside_all       and no others, where each tile that starts in the block lies in it
 --     first_at         a tile stands behind all that start ahead of it
---     Block            what is known where quadrant part's checks are passed; partCheck-passed, they are passed only there
+--     Block            what is known where quadrant part's checks are passed: part_check_passed, and whole_passed of
+--                      a checked list
 --     to_le            a list has no more tiles ahead of a number than tiles
 --     inside_none, inside_large, inside_rest   how many tiles lie inside, by the tile at the part's position
---     part_of_refused, part_of_accepted   the companion's answer; partOf-fits, the part lies in the slots
---     slice_place      the place of the part, by its position
+--     part_of_accepted, part_of_words, part_of_fits   the companion's answer; the same by the words of the checked list;
+--                      the part lies in the slots
 --     slice_of_cut      the part itself, cut out of the slots
 use mathlib.Core.Path.{◌≡◌, refl, sym, ◌∙◌, ap}
 use mathlib.Core.List.Memᴰ
 use mathlib.Core.List.{List, [], ◌∷◌}
-use Prim.Native.Nat.{ℕ, suc, ◌+◌, ◌*◌, ◌-◌, ◌^◌, ◌≤◌, ◌<◌}
+use Prim.Native.Nat.{ℕ, suc, ◌+◌, ◌-◌, ◌^◌, ◌≤◌, ◌<◌}
 use native.Mathlib.Decide.{dec_lt, dec_le}
 use native.Mathlib.Omega.{arith}
 use lib.ListN.{length, take, drop, get_or}
@@ -20,10 +21,10 @@ use Rattle.basics.specs.Choice.{if}
 use Rattle.basics.proofs.Tests.{Test, test_leb, test_and}
 use Rattle.basics.proofs.ChoiceLaws.{if_yes, if_no}
 use Rattle.refusal.specs.Refusal.{accepted}
-use Rattle.refusal.proofs.CheckLaws.{else_inv, unless_on, unless_off}
+use Rattle.refusal.proofs.CheckLaws.{else_on, else_inv, unless_on, unless_off}
 use Rattle.tile.specs.declared.Tile.{Tile}
 use Rattle.tile.specs.Tile.{stop, tile_of, highest_order}
-use Rattle.tile.specs.Slots.{tiles_in}
+use Rattle.tile.specs.Slots.{tiles, tiles_in}
 use Rattle.tile.proofs.SlotsLaws.{length_tiles_in}
 use Rattle.quadtree.specs.Raster.{Aligned, ◌∈◌}
 use Rattle.quadtree.specs.Quadtree.{Rising, link}
@@ -31,11 +32,15 @@ use Rattle.quadtree.specs.Valid.{Valid}
 use Rattle.quadtree.proofs.Alignment.{area_pos, area_mono, aligned_down, aligned_gap, aligned_nest}
 use Rattle.quadtree.proofs.Chains.{rising_from, chain_rising, chain_apart}
 use Rattle.quadtree.proofs.ValidLaws.{valid_quadrant}
+use Rattle.list_check.specs.ListCheck.{list_check}
 use Rattle.list_check.proofs.Accepts.{list_check_valid}
+use Rattle.list_check.proofs.TreeLaws.{tree_tiles}
+use Rattle.checks.specs.Asked.{block_check}
 use Rattle.checks.proofs.AskedLaws.{block_passed}
 use Rattle.part.specs.declared.Part.{Part}
+use Rattle.part.specs.declared.PartAnswer.{PartAnswer}
 use Rattle.list_search.specs.Count.{is_ahead, counted}
-use Rattle.part.specs.Part.{is_inside, part_check, part_of, slice_of, words_in}
+use Rattle.part.specs.Part.{is_inside, part_check, part_of, slice_of}
 use Rattle.list_search.proofs.CountLaws.{test_ahead, counted_yes, counted_le, counted_none, ahead_none, slot_past, slot_upto}
 use Rattle.tile.proofs.SlotTiles.{tiles_in_at, get_d_in}
 
@@ -115,6 +120,11 @@ part_check_passed n t slots c k e =
     let d = block_passed n c k a.1 in
     record { order = b.0; count = b.1; valid = b.2; size = d.0; inside = d.1.0; aligned = d.1.1 }
 
+-- of a checked list
+pub whole_passed : {n c k : ℕ} {ws : List ℕ} → list_check n (length ws) ws ≡ accepted → block_check n c k ≡ accepted → Block n (length ws) ws c k
+unfolding part_check
+whole_passed {n} {c} {k} {ws} g h = part_check_passed n (length ws) ws c k (else_on _ _ g ∙ h)
+
 module _ {n t : ℕ} {slots : List ℕ} {c k : ℕ} (b : Block n t slots c k) (from to : ℕ) (isFrom : from ≡ counted (is_ahead c) (tiles_in t slots)) (isTo : to ≡ counted (is_ahead (c + 4 ^ k)) (tiles_in t slots)) where
   pub to_le : to ≤ t
   to_le = omega (arith, counted_le (test_ahead (c + 4 ^ k)) (tiles_in t slots), length_tiles_in t slots b.count)
@@ -138,32 +148,32 @@ module _ {n t : ℕ} {slots : List ℕ} {c k : ℕ} (b : Block n t slots c k) (f
   inside_rest h small = omega (arith, inside_le c k (tiles_in t slots), inside_all c k (tiles_in t slots) (lie_inside b.valid c k b.aligned (tile_of (get_or slots from 0)) (at_from h) small))
 
 module _ (n t : ℕ) (slots : List ℕ) (c k : ℕ) where
-  pub part_of_refused : (x : ℕ) → x ≡ part_check n t slots c k → (x ≡ accepted → ⊥) → record { number = x; position = 0; length = 0 } ≡ part_of n t slots c k
+  part_of_refused : (part_check n t slots c k ≡ accepted → ⊥) → part_of n t slots c k ≡ record { number = part_check n t slots c k; position = 0; length = 0 }
   unfolding part_of
-  part_of_refused x e h = rw (← e) (sym (unless_off x _ _ h))
+  part_of_refused h = unless_off _ _ _ h
 
   pub part_of_accepted : part_check n t slots c k ≡ accepted → part_of n t slots c k ≡ record { number = accepted; position = counted (is_ahead c) (tiles_in t slots); length = counted (is_inside c k) (tiles_in t slots) }
   unfolding part_of
   part_of_accepted e = unless_on _ _ _ e
 
+  -- by the words of the checked list
+  pub part_of_words : {ws : List ℕ} {p : Part} → list_check n t slots ≡ accepted → block_check n c k ≡ accepted → ws ≡ take t slots → p ≡ record { position = counted (is_ahead c) (tiles ws); length = counted (is_inside c k) (tiles ws) } →
+      record { number = accepted; position = p.position; length = p.length } ≡ part_of n t slots c k
+  unfolding part_check
+  part_of_words g h e f = rw (f, ← tree_tiles t slots e) (sym (part_of_accepted (else_on _ _ g ∙ h)))
+
   -- the part lies in the slots
   pub part_of_fits : (part_of n t slots c k).position + (part_of n t slots c k).length ≤ length slots
   part_of_fits = elim (dec_lt 0 (part_check n t slots c k)) [
-    | yes h ↦ rw (← part_of_refused (part_check n t slots c k) refl (λ e. omega arith)) (omega arith)
+    | yes h ↦ rw (part_of_refused (λ e. omega arith)) (omega arith)
     | no h ↦
         let e : part_check n t slots c k ≡ accepted = omega arith in
         let b = part_check_passed n t slots c k e in
         rw (part_of_accepted e) (omega (arith, inside_le c k (tiles_in t slots), to_le b _ _ refl refl, b.count))
   ]
 
-  -- behind the place o of the slots, 4 bytes for each word ahead
-  pub slice_place : (p : Part) → p ≡ part_of n t slots c k → (o : ℕ × ℕ) → (o.0, p.position * 4 + o.1) ≡ words_in o (part_of n t slots c k).position
-  slice_place p e o =
-      let h : p.position * 4 + o.1 ≡ o.1 + 4 * p.position = omega arith in
-      rw (← e, h)
-
   -- a stretch of the slots from the part's position on, as long as the part
-  pub slice_of_cut : (p : Part) → p ≡ part_of n t slots c k → take (p.position + p.length - p.position) (drop p.position slots) ≡ slice_of n t slots c k
+  pub slice_of_cut : (p : PartAnswer) → p ≡ part_of n t slots c k → take (p.position + p.length - p.position) (drop p.position slots) ≡ slice_of n t slots c k
   unfolding slice_of
   slice_of_cut p e =
       let h : p.position + p.length - p.position ≡ p.length = omega arith in

@@ -1,2 +1,3 @@
 -- Quadrant part.
+pub mod Answers
 pub mod Part

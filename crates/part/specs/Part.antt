@@ -16,7 +16,7 @@ use Rattle.tile.specs.Slots.{tiles_in}
 use Rattle.list_check.specs.ListCheck.{list_check}
 use Rattle.checks.specs.Asked.{block_check}
 use Rattle.list_search.specs.Count.{is_ahead, counted}
-use Rattle.part.specs.declared.Part.{Part}
+use Rattle.part.specs.declared.PartAnswer.{PartAnswer}
 
 abbrev pub is_inside : ℕ → ℕ → Tile → Bool
 is_inside c k u = leb c u.corner && leb (stop u) (c + 4 ^ k)
@@ -24,7 +24,7 @@ is_inside c k u = leb c u.corner && leb (stop u) (c + 4 ^ k)
 unfoldable pub part_check : ℕ → ℕ → List ℕ → ℕ → ℕ → ℕ
 part_check n t slots c k = or_else (list_check n t slots) (block_check n c k)
 
-unfoldable pub part_of : ℕ → ℕ → List ℕ → ℕ → ℕ → Part
+unfoldable pub part_of : ℕ → ℕ → List ℕ → ℕ → ℕ → PartAnswer
 part_of n t slots c k =
     unless (part_check n t slots c k)
     (λ number. record { number = number; position = 0; length = 0 })

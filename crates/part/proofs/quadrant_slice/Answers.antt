@@ -1,48 +1,28 @@
 -- The part that the companion answers, cut out of the slots.
-use Rattle.part.proofs.InsideLaws.{part_of_fits, slice_place, slice_of_cut}
+use mathlib.Core.Path.{refl}
 use native.Mathlib.Omega.{arith}
+use Rattle.part.specs.Part.{slice_of}
+use Rattle.part.proofs.InsideLaws.{part_of_fits, slice_of_cut}
 use Rattle.part.proofs.quadrant_slice.Goals as goal
 
-pub returns : goal.returns
-returns c =
+pub returns-in-Ok-clause-result_value : goal.returns-in-Ok-clause-result_value
+returns-in-Ok-clause-result_value c = slice_of_cut _ _ _ _ _ _ c.in-Ok.ensures
+
+pub returns-in-Err-clause-result_value : goal.returns-in-Err-clause-result_value
+unfolding slice_of
+returns-in-Err-clause-result_value c = rw (← c.in-Err.ensures) refl
+
+pub overflow_add-result : goal.overflow_add-result
+overflow_add-result c =
     let a = c.args in
-    let p = c.quadrant_part-part in
-    record {
-      ref_ptr_value = slice_place a.order a.tiles a.slots.now a.corner a.size p.result p.ensures a.slots.ref_ptr;
-      result_value = slice_of_cut a.order a.tiles a.slots.now a.corner a.size p.result p.ensures;
-    }
+    omega (arith, rw (← c.in-Ok.ensures) at (part_of_fits a.order a.tiles a.slots.now a.block.corner a.block.size))
 
-pub overflow_add-end : goal.overflow_add-end
-overflow_add-end c =
-    let s = c in
-    let f = rw (← c.quadrant_part-part.ensures) at (part_of_fits s.args.order s.args.tiles s.args.slots.now s.args.corner
-    s.args.size) in
-    omega arith
-
-pub offset_bounds-slots-start : goal.offset_bounds-slots-start
-offset_bounds-slots-start c =
-    let s = c in
-    let f = rw (← c.quadrant_part-part.ensures) at (part_of_fits s.args.order s.args.tiles s.args.slots.now s.args.corner
-    s.args.size) in
-    omega arith
-
-pub slice_bounds-result-count : goal.slice_bounds-result-count
-slice_bounds-result-count c =
-    let s = c in
-    let f = rw (← c.quadrant_part-part.ensures) at (part_of_fits s.args.order s.args.tiles s.args.slots.now s.args.corner
-    s.args.size) in
-    omega arith
-
-pub slice_bounds-result-start : goal.slice_bounds-result-start
-slice_bounds-result-start c =
-    let s = c in
-    let f = rw (← c.quadrant_part-part.ensures) at (part_of_fits s.args.order s.args.tiles s.args.slots.now s.args.corner
-    s.args.size) in
-    omega arith
+pub offset_bounds-slots-position : goal.offset_bounds-slots-position
+offset_bounds-slots-position c =
+    let a = c.args in
+    omega (arith, rw (← c.in-Ok.ensures) at (part_of_fits a.order a.tiles a.slots.now a.block.corner a.block.size))
 
 pub slice_bounds-result-end : goal.slice_bounds-result-end
 slice_bounds-result-end c =
-    let s = c in
-    let f = rw (← c.quadrant_part-part.ensures) at (part_of_fits s.args.order s.args.tiles s.args.slots.now s.args.corner
-    s.args.size) in
-    omega arith
+    let a = c.args in
+    omega (arith, rw (← c.in-Ok.ensures) at (part_of_fits a.order a.tiles a.slots.now a.block.corner a.block.size))
