@@ -9,11 +9,12 @@
 --     inside_none, inside_large, inside_rest   how many tiles lie inside, by the tile at the part's position
 --     part_of_accepted, part_of_words, part_of_fits   the companion's answer; the same by the words of the checked list;
 --                      the part lies in the slots
+--     slice_place, slice_start   the place of the part, by its position, and where that is 0
 --     slice_of_cut      the part itself, cut out of the slots
 use mathlib.Core.Path.{◌≡◌, refl, sym, ◌∙◌, ap}
 use mathlib.Core.List.Memᴰ
 use mathlib.Core.List.{List, [], ◌∷◌}
-use Prim.Native.Nat.{ℕ, suc, ◌+◌, ◌-◌, ◌^◌, ◌≤◌, ◌<◌}
+use Prim.Native.Nat.{ℕ, suc, ◌+◌, ◌*◌, ◌-◌, ◌^◌, ◌≤◌, ◌<◌}
 use native.Mathlib.Decide.{dec_lt, dec_le}
 use native.Mathlib.Omega.{arith}
 use lib.ListN.{length, take, drop, get_or}
@@ -40,7 +41,7 @@ use Rattle.checks.proofs.AskedLaws.{block_passed}
 use Rattle.part.specs.declared.Part.{Part}
 use Rattle.part.specs.declared.PartAnswer.{PartAnswer}
 use Rattle.list_search.specs.Count.{is_ahead, counted}
-use Rattle.part.specs.Part.{is_inside, part_check, part_of, slice_of}
+use Rattle.part.specs.Part.{is_inside, part_check, part_of, slice_of, words_in}
 use Rattle.list_search.proofs.CountLaws.{test_ahead, counted_yes, counted_le, counted_none, ahead_none, slot_past, slot_upto}
 use Rattle.tile.proofs.SlotTiles.{tiles_in_at, get_d_in}
 
@@ -171,6 +172,18 @@ module _ (n t : ℕ) (slots : List ℕ) (c k : ℕ) where
         let b = part_check_passed n t slots c k e in
         rw (part_of_accepted e) (omega (arith, inside_le c k (tiles_in t slots), to_le b _ _ refl refl, b.count))
   ]
+
+  -- behind the place o of the slots, 4 bytes for each word ahead
+  pub slice_place : (p : PartAnswer) → p ≡ part_of n t slots c k → (o : ℕ × ℕ) → (o.0, p.position * 4 + o.1) ≡ words_in o (part_of n t slots c k).position
+  slice_place p e o =
+      let h : p.position * 4 + o.1 ≡ o.1 + 4 * p.position = omega arith in
+      rw (← e, h)
+
+  -- at the slots' start, where none is ahead
+  pub slice_start : (p : PartAnswer) → p ≡ part_of n t slots c k → p.position ≡ 0 → (o : ℕ × ℕ) → o ≡ words_in o (part_of n t slots c k).position
+  slice_start p e h o =
+      let z : o.1 ≡ o.1 + 4 * p.position = omega (arith, h) in
+      rw (← e) (ap (λ (x : ℕ). (o.0, x)) z)
 
   -- a stretch of the slots from the part's position on, as long as the part
   pub slice_of_cut : (p : PartAnswer) → p ≡ part_of n t slots c k → take (p.position + p.length - p.position) (drop p.position slots) ≡ slice_of n t slots c k

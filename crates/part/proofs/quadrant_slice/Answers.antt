@@ -2,8 +2,14 @@
 use mathlib.Core.Path.{refl}
 use native.Mathlib.Omega.{arith}
 use Rattle.part.specs.Part.{slice_of}
-use Rattle.part.proofs.InsideLaws.{part_of_fits, slice_of_cut}
+use Rattle.part.proofs.InsideLaws.{part_of_fits, slice_place, slice_start, slice_of_cut}
 use Rattle.part.proofs.quadrant_slice.Goals as goal
+
+pub returns-in-Ok-clause-ref_ptr_value : goal.returns-in-Ok-clause-ref_ptr_value
+returns-in-Ok-clause-ref_ptr_value c = slice_place _ _ _ _ _ _ c.in-Ok.ensures c.args.slots.ref_ptr
+
+pub returns-in-Err-clause-ref_ptr_value : goal.returns-in-Err-clause-ref_ptr_value
+returns-in-Err-clause-ref_ptr_value c = slice_start _ _ _ _ _ _ c.in-Err.ensures refl c.args.slots.ref_ptr
 
 pub returns-in-Ok-clause-result_value : goal.returns-in-Ok-clause-result_value
 returns-in-Ok-clause-result_value c = slice_of_cut _ _ _ _ _ _ c.in-Ok.ensures
