@@ -17,14 +17,16 @@ use Rattle.refusal.specs.Checks.{After, must}
 use Rattle.refusal.proofs.CheckLaws.{must_on, must_off, else_on, else_off, else_inv, unless_on, unless_off}
 use Rattle.tile.specs.Tile.{highest_order}
 use Rattle.text.specs.PutAt.{PutAt}
-use Rattle.text.proofs.PutAtLaws.{put_at_then}
+use Rattle.text.specs.Puts.{Puts}
+use Rattle.text.specs.declared.Writer.{Writer}
+use Rattle.text.proofs.PutAtLaws.{puts_then}
 use Rattle.decimal.specs.Decimal.{digits}
 use Rattle.decimal.specs.Value.{zero_digit}
 use Rattle.checks.specs.Asked.{order_check}
 use Rattle.checks.proofs.AskedLaws.{order_passed, coordinate_passed}
-use Rattle.mils.specs.declared.Pixel.{Pixel}
-use Rattle.mils.specs.declared.Hundredths.{Hundredths}
-use Rattle.mils.specs.declared.PutText.{PutText}
+use Rattle.mils.specs.declared.PixelAnswer.{PixelAnswer}
+use Rattle.mils.specs.declared.HundredthsAnswer.{HundredthsAnswer}
+use Rattle.mils.specs.declared.TextAnswer.{TextAnswer}
 use Rattle.mils.specs.Mils.{pixel_at, smallest_in}
 use Rattle.mils.specs.Position.{point, well_formed, named_by, position_text}
 use Rattle.mils.specs.Calls.{pixel_answer, position_asked, pixel_of, hundredths_answer, pixel_asked, hundredths_of, text_answer, text_asked, text_of}
@@ -33,7 +35,7 @@ use Rattle.mils.proofs.MilsLaws.{side_most}
 module _ (n : ℕ) (text : List ℕ) where
   refused_by : (r : ℕ) → position_asked n text ≡ r → (r ≡ accepted → ⊥) → pixel_answer r 0 ≡ pixel_of n text
   unfolding pixel_of
-  refused_by r e h = sym (unless_off {A = Pixel} (position_asked n text) _ _ (λ z. h (sym e ∙ z)) ∙ ap (λ (x : ℕ). pixel_answer x 0) e)
+  refused_by r e h = sym (unless_off {A = PixelAnswer} (position_asked n text) _ _ (λ z. h (sym e ∙ z)) ∙ ap (λ (x : ℕ). pixel_answer x 0) e)
 
   pub pixel_of_refused : (r : ℕ) → r ≡ order_check n → (r ≡ accepted → ⊥) → pixel_answer r 0 ≡ pixel_of n text
   unfolding position_asked
@@ -53,7 +55,7 @@ module _ (n : ℕ) (text : List ℕ) where
       pub pixel_of_on : p < 2 ^ n → pixel_answer accepted p ≡ pixel_of n text
       unfolding pixel_of position_asked must
       pixel_of_on b =
-          rw e (sym (unless_on {A = Pixel} (position_asked n text) _ _
+          rw e (sym (unless_on {A = PixelAnswer} (position_asked n text) _ _
           (else_on (order_check n) _ o ∙ simp (f, lt-ltb (pixel_at (named_by text)) (2 ^ n) (rw e at b)))))
 
 module _ (n p : ℕ) where
@@ -68,22 +70,22 @@ module _ (n p : ℕ) where
 
   pub hundredths_of_refused : (r : ℕ) → r ≡ pixel_asked n p → (r ≡ accepted → ⊥) → hundredths_answer r 0 ≡ hundredths_of n p
   unfolding hundredths_of
-  hundredths_of_refused r e h = rw (← e) (sym (unless_off {A = Hundredths} r _ _ h))
+  hundredths_of_refused r e h = rw (← e) (sym (unless_off {A = HundredthsAnswer} r _ _ h))
 
   pub hundredths_of_found : (r x : ℕ) → r ≡ pixel_asked n p → r ≡ accepted → x ≡ smallest_in p → hundredths_answer accepted x ≡ hundredths_of n p
   unfolding hundredths_of
-  hundredths_of_found r x e h i = rw i (sym (unless_on {A = Hundredths} (pixel_asked n p) _ _ (sym e ∙ h)))
+  hundredths_of_found r x e h i = rw i (sym (unless_on {A = HundredthsAnswer} (pixel_asked n p) _ _ (sym e ∙ h)))
 
-pub position_put : (h : ℕ) {x y a b d end : ℕ} {old one two three new : List ℕ} → x ≡ zero_digit + h / 10 % 10 → y ≡ zero_digit + h % 10 →
-    PutAt (digits (h / 100)) 0 old a one → PutAt (point ∷ []) a one b two → PutAt (x ∷ []) b two d three → PutAt (y ∷ []) d three end new →
-    PutAt (position_text h) 0 old end new
+pub position_put : (h : ℕ) {x y : ℕ} {old one two three new : Writer} → x ≡ zero_digit + h / 10 % 10 → y ≡ zero_digit + h % 10 →
+    Puts (digits (h / 100)) old one → Puts (point ∷ []) one two → Puts (x ∷ []) two three → Puts (y ∷ []) three new →
+    Puts (position_text h) old new
 unfolding position_text
-position_put h j k s t u v = put_at_then s (put_at_then t (put_at_then (rw j at u) (rw k at v)))
+position_put h j k s t u v = puts_then s (puts_then t (puts_then (rw j at u) (rw k at v)))
 
 module _ (n p : ℕ) (out : List ℕ) {r : ℕ} (s : r ≡ pixel_asked n p) where
   pub text_of_refused : (r ≡ accepted → ⊥) → text_answer r 0 out ≡ text_of n p out
   unfolding text_of text_asked
-  text_of_refused f = sym (unless_off {A = After PutText} (text_asked n p out) _ _ (λ z. f (s ∙ sym check ∙ z)) ∙ ap (λ (x : ℕ). text_answer x 0 out) (check ∙ sym s))
+  text_of_refused f = sym (unless_off {A = After TextAnswer} (text_asked n p out) _ _ (λ z. f (s ∙ sym check ∙ z)) ∙ ap (λ (x : ℕ). text_answer x 0 out) (check ∙ sym s))
     where
       check : text_asked n p out ≡ pixel_asked n p
       check = else_off (pixel_asked n p) _ (λ z. f (s ∙ z))
@@ -91,7 +93,7 @@ module _ (n p : ℕ) (out : List ℕ) {r : ℕ} (s : r ≡ pixel_asked n p) wher
   module _ (z : r ≡ accepted) {h : ℕ} (i : h ≡ smallest_in p) where
     pub text_of_few : {l : ℕ} → l ≡ length (position_text h) → length out < l → text_answer bytes_too_few 0 out ≡ text_of n p out
     unfolding text_of text_asked
-    text_of_few {l} e g = sym (unless_off {A = After PutText} (text_asked n p out) _ _ (λ y. omega (arith, sym y ∙ check)) ∙ ap (λ (x : ℕ). text_answer x 0 out) check)
+    text_of_few {l} e g = sym (unless_off {A = After TextAnswer} (text_asked n p out) _ _ (λ y. omega (arith, sym y ∙ check)) ∙ ap (λ (x : ℕ). text_answer x 0 out) check)
       where
         check : text_asked n p out ≡ bytes_too_few
         check = else_on (pixel_asked n p) _ (sym s ∙ z) ∙ must_off _ _ (test_leb (length (position_text (smallest_in p))) (length out)) (λ k. omega (arith, rw i at e))
@@ -101,7 +103,7 @@ module _ (n p : ℕ) (out : List ℕ) {r : ℕ} (s : r ≡ pixel_asked n p) wher
     text_of_done {l} {end} {new} e g w =
         ap (λ (x : ℕ). text_answer accepted x new) a
         ∙ ap (text_answer accepted (length (position_text (smallest_in p)))) b
-        ∙ sym (unless_on {A = After PutText} (text_asked n p out) _ _ check)
+        ∙ sym (unless_on {A = After TextAnswer} (text_asked n p out) _ _ check)
       where
         check : text_asked n p out ≡ accepted
         check = else_on (pixel_asked n p) _ (sym s ∙ z) ∙ must_on _ _ (test_leb (length (position_text (smallest_in p))) (length out)) (omega (arith, rw i at e))

@@ -12,8 +12,8 @@ use Rattle.refusal.specs.Checks.{After}
 use Rattle.refusal.proofs.CheckLaws.{must_on, else_on, else_off, unless_on, unless_number}
 use Rattle.tile.specs.Tile.{highest_order}
 use Rattle.checks.proofs.AskedLaws.{order_inside, order_refused, coordinate_inside, coordinate_outside}
-use Rattle.mils.specs.declared.Hundredths.{Hundredths}
-use Rattle.mils.specs.declared.PutText.{PutText}
+use Rattle.mils.specs.declared.HundredthsAnswer.{HundredthsAnswer}
+use Rattle.mils.specs.declared.TextAnswer.{TextAnswer}
 use Rattle.mils.specs.Mils.{pixel_at, smallest_in}
 use Rattle.mils.specs.Position.{Form, named_by, position_text}
 use Rattle.mils.specs.Calls.{pixel_answer, pixel_of, hundredths_answer, pixel_asked, hundredths_of, text_answer, text_asked, text_of}
@@ -74,7 +74,7 @@ positions n text o = record {
 module _ (n p : ℕ) where
   number : (hundredths_of n p).number ≡ pixel_asked n p
   unfolding hundredths_of
-  number = unless_number (λ (x : Hundredths). x.number) (pixel_asked n p) (λ x. refl) refl
+  number = unless_number (λ (x : HundredthsAnswer). x.number) (pixel_asked n p) (λ x. refl) refl
 
   found : pixel_asked n p ≡ accepted → hundredths_of n p ≡ hundredths_answer accepted (smallest_in p)
   found e = sym (hundredths_of_found n p _ _ refl e refl)
@@ -107,7 +107,7 @@ puts : (n p : ℕ) (out : List ℕ) → pixel_asked n p ≡ accepted → length 
     ≡ text_answer accepted (length (position_text (smallest_in p))) (position_text (smallest_in p) ++ drop (length (position_text (smallest_in p))) out)
 unfolding text_of text_asked
 puts n p out e l =
-    unless_on {A = After PutText} (text_asked n p out) _ _
+    unless_on {A = After TextAnswer} (text_asked n p out) _ _
     (else_on (pixel_asked n p) _ e ∙ must_on _ _ (test_leb (length (position_text (smallest_in p))) (length out)) l)
 
 pub alike : Alike

@@ -2,5 +2,6 @@
 pub mod Mils
 pub mod Position
 pub mod Calls
+pub mod Answers
 pub mod Promises
 pub mod Worked

@@ -4,36 +4,17 @@
 
 ghost use Rattle.std.specs.Prelude.{◌≡◌, true, ◌^◌, ◌<◌, length};
 ghost use Rattle.refusal.specs.Checks.{Gives};
+ghost use Rattle.refusal.specs.Refused.{said};
 ghost use Rattle.tile.specs.Tile.{highest_order};
 ghost use Rattle.text.specs.PutAt.{PutAt};
 ghost use Rattle.decimal.specs.Decimal.{digits};
 ghost use Rattle.mils.specs.Mils.{smallest_in};
 ghost use Rattle.mils.specs.Position.{hundredths_limit, needless_zero, well_formed, named_by, position_text};
 ghost use Rattle.mils.specs.Calls.{pixel_of, pixel_asked, hundredths_of, text_of};
+ghost use Rattle.mils.specs.Answers.{answered_pixel, answered_hundredths, answered_text};
 
-// The pixel of a position, 0 where it is refused.
-#[repr(C)]
-#[derive(Clone, Copy)]
-pub struct Pixel {
-    pub number: u32,
-    pub pixel: u32,
-}
-
-// The hundredths of a mil of a pixel, 0 where it is refused.
-#[repr(C)]
-#[derive(Clone, Copy)]
-pub struct Hundredths {
-    pub number: u32,
-    pub h: u32,
-}
-
-// The length of a text put into lent bytes, 0 where it is refused.
-#[repr(C)]
-#[derive(Clone, Copy)]
-pub struct PutText {
-    pub number: u32,
-    pub length: usize,
-}
+use refusal::{Checked, Refusal};
+use text::Writer;
 
 // 127 pixels are as wide as 200,000 hundredths of a mil: two inches.
 const PIXELS: u32 = 127;
@@ -98,40 +79,25 @@ fn named_by(text: &[u8]) -> u32
 }
 
 // The offered call: the pixel of a position on a bed of an order.
-pub fn pixel_of(order: u32, text: &[u8]) -> Pixel
-    ensures { result ≡ pixel_of order text.now }
+pub fn pixel_of(order: u32, text: &[u8]) -> Result<u32, Refusal>
+    ensures { answered_pixel result ≡ pixel_of order text.now }
 {
-    let number = checks::order(order);
-    if number != refusal::ACCEPTED {
-        return Pixel { number, pixel: 0 };
-    }
+    checks::order(order)?;
     if !well_formed(text) {
-        return Pixel {
-            number: refusal::POSITION_INVALID,
-            pixel: 0,
-        };
+        return Err(Refusal::PositionInvalid);
     }
     let pixel = named_by(text) * PIXELS / HUNDREDTHS;
-    if checks::coordinate(order, pixel) != refusal::ACCEPTED {
-        return Pixel {
-            number: refusal::POSITION_INVALID,
-            pixel: 0,
-        };
-    }
-    Pixel {
-        number: refusal::ACCEPTED,
-        pixel,
+    match checks::coordinate(order, pixel) {
+        Ok(()) => Ok(pixel),
+        Err(_) => Err(Refusal::PositionInvalid),
     }
 }
 
 // The checks of the way back: 1, then 31.
-fn pixel_asked(order: u32, pixel: u32) -> u32
-    ensures { result ≡ pixel_asked order pixel }
+fn pixel_asked(order: u32, pixel: u32) -> Checked
+    ensures { said result ≡ pixel_asked order pixel }
 {
-    let ordered = checks::order(order);
-    if ordered != refusal::ACCEPTED {
-        return ordered;
-    }
+    checks::order(order)?;
     checks::coordinate(order, pixel)
 }
 
@@ -144,17 +110,11 @@ fn smallest_in(pixel: u32) -> u32
 }
 
 // The offered call: the smallest position of a pixel, in hundredths of a mil.
-pub fn hundredths_of(order: u32, pixel: u32) -> Hundredths
-    ensures { result ≡ hundredths_of order pixel }
+pub fn hundredths_of(order: u32, pixel: u32) -> Result<u32, Refusal>
+    ensures { answered_hundredths result ≡ hundredths_of order pixel }
 {
-    let number = pixel_asked(order, pixel);
-    if number != refusal::ACCEPTED {
-        return Hundredths { number, h: 0 };
-    }
-    Hundredths {
-        number: refusal::ACCEPTED,
-        h: smallest_in(pixel),
-    }
+    pixel_asked(order, pixel)?;
+    Ok(smallest_in(pixel))
 }
 
 // How many digits a number of at most five has.
@@ -162,19 +122,7 @@ fn places(n: usize) -> usize
     requires { n < 10 ^ 5 }
     ensures { result ≡ length (digits n) }
 {
-    if n < 10 {
-        return 1;
-    }
-    if n < 100 {
-        return 2;
-    }
-    if n < 1000 {
-        return 3;
-    }
-    if n < 10000 {
-        return 4;
-    }
-    5
+    n.max(1).ilog10() as usize + 1
 }
 
 // How many bytes the text of a position has.
@@ -189,30 +137,88 @@ fn text_length(h: usize) -> usize
 fn put_position(out: &mut [u8], h: usize) -> usize
     ensures { PutAt (position_text h) 0 out.old result out.new }
 {
-    let p = decimal::put_number(out, 0, h / 100);
-    let q = text::put(out, p, POINT);
-    let s = text::put(out, q, decimal::digit(h / 10 % 10));
-    text::put(out, s, decimal::digit(h % 10))
+    let mut writer = Writer::new(out);
+    decimal::put_number(&mut writer, h / 100);
+    writer.put(POINT);
+    writer.put(decimal::digit(h / 10 % 10));
+    writer.put(decimal::digit(h % 10));
+    writer.count()
 }
 
 // The offered call: the text of the smallest position of a pixel, at the front of the lent bytes. Those behind it stay.
-pub fn text_of(order: u32, pixel: u32, out: &mut [u8]) -> PutText
-    ensures { Gives result out.new (text_of order pixel out.old) }
+pub fn text_of(order: u32, pixel: u32, out: &mut [u8]) -> Result<usize, Refusal>
+    ensures { Gives (answered_text result) out.new (text_of order pixel out.old) }
 {
-    let number = pixel_asked(order, pixel);
-    if number != refusal::ACCEPTED {
-        return PutText { number, length: 0 };
-    }
+    pixel_asked(order, pixel)?;
     let h = smallest_in(pixel) as usize;
     if out.len() < text_length(h) {
-        return PutText {
-            number: refusal::BYTES_TOO_FEW,
-            length: 0,
-        };
+        return Err(Refusal::BytesTooFew);
     }
-    let length = put_position(out, h);
-    PutText {
-        number: refusal::ACCEPTED,
-        length,
+    Ok(put_position(out, h))
+}
+
+// What C gets of a position's pixel: it, or 0 behind the refusal's number.
+#[repr(C)]
+#[derive(Clone, Copy, Debug, PartialEq, Eq)]
+pub struct PixelAnswer {
+    pub number: u32,
+    pub pixel: u32,
+}
+
+impl From<Result<u32, Refusal>> for PixelAnswer {
+    ghost from_gives = { λ r e. e ≡ answered_pixel r };
+
+    fn from(answer: Result<u32, Refusal>) -> PixelAnswer {
+        match answer {
+            Ok(pixel) => PixelAnswer { number: 0, pixel },
+            Err(refusal) => PixelAnswer {
+                number: u32::from(refusal),
+                pixel: 0,
+            },
+        }
+    }
+}
+
+// What C gets of a pixel's hundredths of a mil, likewise.
+#[repr(C)]
+#[derive(Clone, Copy, Debug, PartialEq, Eq)]
+pub struct HundredthsAnswer {
+    pub number: u32,
+    pub h: u32,
+}
+
+impl From<Result<u32, Refusal>> for HundredthsAnswer {
+    ghost from_gives = { λ r e. e ≡ answered_hundredths r };
+
+    fn from(answer: Result<u32, Refusal>) -> HundredthsAnswer {
+        match answer {
+            Ok(h) => HundredthsAnswer { number: 0, h },
+            Err(refusal) => HundredthsAnswer {
+                number: u32::from(refusal),
+                h: 0,
+            },
+        }
+    }
+}
+
+// What C gets of a text put into lent bytes: its length, or 0 behind the refusal's number.
+#[repr(C)]
+#[derive(Clone, Copy, Debug, PartialEq, Eq)]
+pub struct TextAnswer {
+    pub number: u32,
+    pub length: usize,
+}
+
+impl From<Result<usize, Refusal>> for TextAnswer {
+    ghost from_gives = { λ r e. e ≡ answered_text r };
+
+    fn from(answer: Result<usize, Refusal>) -> TextAnswer {
+        match answer {
+            Ok(length) => TextAnswer { number: 0, length },
+            Err(refusal) => TextAnswer {
+                number: u32::from(refusal),
+                length: 0,
+            },
+        }
     }
 }
