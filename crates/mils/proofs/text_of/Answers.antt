@@ -13,12 +13,12 @@ returns-in_err-pixel_asked c = search (rules, unless_refused, else_refused)
 pub returns-then-out-text_length : goal.returns-then-out-text_length
 returns-then-out-text_length c =
     let a = c.args in
-    text_of_few a.order a.pixel a.out.now c.in_ok-pixel_asked.ensures refl c.smallest_in-h.ensures c.text_length.ensures c.if-out-text_length.true
+    text_of_few a.order a.pixel a.out.now c.in_ok-pixel_asked.ensures refl c.smallest_in-h.ensures c.text_length.ensures (omega (arith, c.if-out-text_length.true))
 
 pub returns : goal.returns
 returns c =
     let a = c.args in
-    text_of_done a.order a.pixel a.out.now c.in_ok-pixel_asked.ensures refl c.smallest_in-h.ensures c.text_length.ensures c.if-out-text_length.false
+    text_of_done a.order a.pixel a.out.now c.in_ok-pixel_asked.ensures refl c.smallest_in-h.ensures c.text_length.ensures (omega (arith, c.if-out-text_length.false))
     c.put_position.ensures
 
 pub smallest_in-h-requires : goal.smallest_in-h-requires
