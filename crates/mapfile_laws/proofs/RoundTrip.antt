@@ -49,7 +49,7 @@ use Rattle.mapfile_roster.proofs.RosterLaws.{roster_of_rising, roster_of_good, r
 use Rattle.mapfile_read.specs.Reader.{file_order, file_count, file_check, read_of}
 use Rattle.mapfile_read.proofs.ReaderLaws.{file_check_roster, tiles_check_words, read_of_accepted}
 use Rattle.mapfile_sections.specs.Sections.{words_bytes, entries_bytes}
-use Rattle.mapfile_write.specs.declared.Written.{Written}
+use Rattle.mapfile_write.specs.declared.WriteAnswer.{WriteAnswer}
 use Rattle.mapfile_write.specs.Writer.{file_of, ready_check, write_check, write_of}
 use Rattle.mapfile_write.proofs.WriterLaws.{length_words_bytes, file_of_bytes, write_of_accepted, ready_opened}
 use Rattle.mapfile_laws.specs.RoundTrip.{ReadWritten, WrittenWhole, WritesScanned}
@@ -145,7 +145,7 @@ read_written scan slots file others e c =
 
 pub write_number : (scan : Scan) (slots file : List ℕ) → (write_of scan slots file).answer.number ≡ write_check scan slots file
 unfolding write_of
-write_number scan slots file = unless_number (λ (x : After Written). x.answer.number) (write_check scan slots file) (λ r. refl) refl
+write_number scan slots file = unless_number (λ (x : After WriteAnswer). x.answer.number) (write_check scan slots file) (λ r. refl) refl
 
 pub written_whole : WrittenWhole
 unfolding ready_check

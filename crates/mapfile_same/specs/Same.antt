@@ -25,7 +25,7 @@ use Rattle.bed.specs.Shown.{shown_bed}
 use Rattle.scan_check.specs.Opening.{opening}
 use Rattle.decode.specs.Decode.{decode_of}
 use Rattle.mapfile_read.specs.Reader.{file_count, read_bed, read_of}
-use Rattle.mapfile_write.specs.declared.Written.{Written}
+use Rattle.mapfile_write.specs.declared.WriteAnswer.{WriteAnswer}
 use Rattle.mapfile_write.specs.Writer.{write_of}
 
 abbrev pub Bytes : List ℕ → Type 0
@@ -58,7 +58,7 @@ WriterAccepts scan slots lent = (write_of scan slots lent).answer.number ≡ acc
 abbrev pub written : Scan → List ℕ → List ℕ → List ℕ
 written scan slots lent = take (write_of scan slots lent).answer.length (write_of scan slots lent).storage
 
-abbrev pub wrote : List ℕ → List ℕ → After Written
+abbrev pub wrote : List ℕ → List ℕ → After WriteAnswer
 wrote file lent = record {
   answer = record { number = accepted; length = length file };
   storage = file ++ drop (length file) lent;

@@ -16,7 +16,7 @@ use Rattle.scan_check.specs.Opening.{opening}
 use Rattle.scan_check.specs.Scanned.{finished_check}
 use Rattle.mapfile_roster.specs.Roster.{roster_of}
 use Rattle.mapfile_sections.specs.Sections.{word_bytes, words_bytes, roster_bytes}
-use Rattle.mapfile_write.specs.declared.Written.{Written}
+use Rattle.mapfile_write.specs.declared.WriteAnswer.{WriteAnswer}
 
 -- order; tile count and words; roster
 unfoldable pub file_of : ℕ → List Tile → List ℕ
@@ -29,7 +29,7 @@ unfoldable pub write_check : Scan → List ℕ → List ℕ → ℕ
 write_check scan slots file = or_else (ready_check scan slots)
     (must (leb (length (file_of scan.order (tiles_in scan.tiles slots))) (length file)) bytes_too_few accepted)
 
-unfoldable pub write_of : Scan → List ℕ → List ℕ → After Written
+unfoldable pub write_of : Scan → List ℕ → List ℕ → After WriteAnswer
 write_of scan slots file =
     let bytes : List ℕ = file_of scan.order (tiles_in scan.tiles slots) in
     unless (write_check scan slots file)

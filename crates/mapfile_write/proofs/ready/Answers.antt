@@ -1,19 +1,23 @@
 -- The opening checks, which bound the order, then 52.
 use mathlib.Core.Path.{◌∙◌, sym}
-use Rattle.refusal.proofs.CheckLaws.{else_on, else_off}
-use Rattle.scan_check.proofs.Opening.{opening_opened}
+use native.Mathlib.Omega.{arith}
+use Rattle.std.proofs.Common.{rules}
+use Rattle.refusal.proofs.RefusedLaws.{else_refused, else_passed}
+use Rattle.list_check.proofs.TreeLaws.{tree_order}
 use Rattle.mapfile_write.specs.Writer.{ready_check}
 use Rattle.mapfile_write.proofs.ready.Goals as goal
 
-pub returns-then-opened-ne-ACCEPTED : goal.returns-then-opened-ne-ACCEPTED
+pub returns-in_err-tree-clause-number : goal.returns-in_err-tree-clause-number
 unfolding ready_check
-returns-then-opened-ne-ACCEPTED c = rw (sym c.open_finished-opened.ensures) (sym (else_off _ _ c.if-opened-ne-ACCEPTED.true))
+returns-in_err-tree-clause-number c = search (rules, else_refused)
+
+pub returns-in_err-finished-clause-number : goal.returns-in_err-finished-clause-number
+unfolding ready_check
+returns-in_err-finished-clause-number c = rw (else_passed _ c.in_ok-tree.ensures.number) (search rules)
+
+pub returns-clause-number : goal.returns-clause-number
+unfolding ready_check
+returns-clause-number c = c.in_ok-finished.ensures ∙ sym (else_passed _ c.in_ok-tree.ensures.number)
 
 pub finished-requires : goal.finished-requires
-finished-requires c =
-    let a = c.args in
-    (opening_opened a.scan a.slots.now (sym c.open_finished-opened.ensures ∙ c.if-opened-ne-ACCEPTED.false)).order
-
-pub returns : goal.returns
-unfolding ready_check
-returns c = c.finished.ensures ∙ sym (else_on _ _ (sym c.open_finished-opened.ensures ∙ c.if-opened-ne-ACCEPTED.false))
+finished-requires c = omega (arith, tree_order _ _ c.in_ok-tree.tree.passes, c.in_ok-tree.ensures.tree.0)
