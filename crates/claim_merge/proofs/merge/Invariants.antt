@@ -1,4 +1,5 @@
 -- While the three siblings stand beside the tile, its parent takes their place.
+use mathlib.Core.Path.{◌≡◌}
 use mathlib.Core.List.{map}
 use Prim.Native.Nat.{◌+◌, ◌-◌}
 use lib.ListN.{length}
@@ -8,8 +9,9 @@ use Rattle.bed.specs.Bed.{claimed}
 use Rattle.claim_merge.specs.Standing.{Stands}
 use Rattle.claim_merge.proofs.merge.Given as goal
 
-abbrev pub invariant-loop-area : goal.invariant-loop-area
-invariant-loop-area l = Stands (claimed (account_at (map tile_of l.list)) l.corner l.size l.account) l.order (map tile_of l.list) l.account l.from l.to l.c l.k
+abbrev pub invariant-loop-corner : goal.invariant-loop-corner
+invariant-loop-corner l = (l.merged.tile.account ≡ l.fn.standing.tile.account)
+    × Stands (claimed (account_at (map tile_of l.list)) l.fn.standing.tile.corner l.fn.standing.tile.size l.fn.standing.tile.account) l.order (map tile_of l.list) l.fn.standing.tile.account l.merged.lo l.merged.hi l.merged.tile.corner l.merged.tile.size
 
-abbrev pub decreases-loop-area : goal.decreases-loop-area
-decreases-loop-area l = l.from + (length l.list - l.to)
+abbrev pub decreases-loop-corner : goal.decreases-loop-corner
+decreases-loop-corner l = l.merged.lo + (length l.list - l.merged.hi)
