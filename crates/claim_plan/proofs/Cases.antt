@@ -74,7 +74,7 @@ module _ {n : ℕ} {ts : List Tile} {c k a : ℕ} (q : Claimable n ts c k a) whe
       owned = λ l. w.on.owned;
     }
 
-    pub kept_changes : lo < length ts → t.account ≤ highest_account → t.account ≡ a → Changes n ts c k a (record { lo = lo; hi = lo + 1; first = t.corner; top = t.size; corner = t.corner; size = t.size; owner = t.account })
+    pub kept_changes : lo < length ts → t.account ≤ highest_account → t.account ≡ a → Changes n ts c k a (record { lo = lo; hi = lo + 1; whole = record { corner = t.corner; size = t.size }; block = record { corner = t.corner; size = t.size }; owner = t.account })
     kept_changes l small e = record {
       order = omega arith;
       within = omega arith;
@@ -85,7 +85,7 @@ module _ {n : ℕ} {ts : List Tile} {c k a : ℕ} (q : Claimable n ts c k a) whe
       result = rw (add-one lo) (kept e);
     }
 
-    pub split_changes : lo < length ts → t.account ≤ highest_account → (t.account ≡ a → ⊥) → Changes n ts c k a (record { lo = lo; hi = lo + 1; first = t.corner; top = t.size; corner = c; size = k; owner = t.account })
+    pub split_changes : lo < length ts → t.account ≤ highest_account → (t.account ≡ a → ⊥) → Changes n ts c k a (record { lo = lo; hi = lo + 1; whole = record { corner = t.corner; size = t.size }; block = record { corner = c; size = k }; owner = t.account })
     split_changes l small ne = record {
       order = omega arith;
       within = omega arith;
@@ -102,7 +102,7 @@ module _ {n : ℕ} {ts : List Tile} {c k a : ℕ} (q : Claimable n ts c k a) whe
     whole : take lo ts ++ (take (hi - lo) (drop lo ts) ++ drop hi ts) ≡ ts
     whole = let e : lo + (hi - lo) ≡ hi = omega arith in rw (ap (λ (x : ℕ). drop x ts) (sym e), ← drop-drop (hi - lo) lo ts, take-append-drop, take-append-drop)
 
-    pub cleared_changes : a ≡ 0 → Changes n ts c k a (record { lo = lo; hi = hi; first = c; top = k; corner = c; size = k; owner = 0 })
+    pub cleared_changes : a ≡ 0 → Changes n ts c k a (record { lo = lo; hi = hi; whole = record { corner = c; size = k }; block = record { corner = c; size = k }; owner = 0 })
     cleared_changes e = record {
       order = order;
       within = upto;
@@ -130,7 +130,7 @@ module _ {n : ℕ} {ts : List Tile} {c k a : ℕ} (q : Claimable n ts c k a) whe
   no_four : (j : ℕ) → NoFour (take j ts ++ drop j ts)
   no_four j = rw take-append-drop (valid_no_four q.valid)
 
-  pub merges_changes : {lo hi d s : ℕ} → Merges g n ts a lo hi d s → Changes n ts c k a (record { lo = lo; hi = hi; first = d; top = s; corner = d; size = s; owner = 0 })
+  pub merges_changes : {lo hi d s : ℕ} → Merges g n ts a lo hi d s → Changes n ts c k a (record { lo = lo; hi = hi; whole = record { corner = d; size = s }; block = record { corner = d; size = s }; owner = 0 })
   merges_changes {lo} {hi} {d} {s} m =
       let h = m.stands.between in
       let r : d + 4 ^ s ≤ 4 ^ n = tiling_le h.rest in

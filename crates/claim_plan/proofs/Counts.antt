@@ -1,10 +1,14 @@
 -- The counts of a plan.
---     inner_none, -one, -le   how many tiles a block of an account has
+--     inner_none, -one, -bit, -le   how many tiles a block of an account has
 --     changes_pieces          how many tiles come
 --     changes_tiles           how many the list then has
 --     Sums ..                 the bounds of the sum, which `changes_sums` gives
 use mathlib.Core.Path.{◌≡◌, ◌∙◌, refl, ap, sym}
+use mathlib.Core.Bool.{Bool, not}
+use Rattle.basics.proofs.Tests.{Test, holds, fails, test_eqb}
 use mathlib.Core.List.{List}
+use lib.Dec.{eqb}
+use mir.Val.{bool_byte}
 use Prim.Native.Nat.{ℕ, zero, suc, ◌+◌, ◌-◌, ◌*◌, ◌≤◌}
 use native.Mathlib.Omega.{arith}
 use lib.ListN.{length, take, drop, length-append, length-drop}
@@ -28,6 +32,13 @@ unfolding inner
 inner_one zero e = absurd (e refl)
 inner_one (suc a) e = refl
 
+pub inner_bit : (a : ℕ) → bool_byte (not (eqb a 0)) ≡ inner a
+inner_bit a = go (test_eqb a 0)
+  where
+    go : {b : Bool} → Test (a ≡ 0) b → bool_byte (not b) ≡ inner a
+    go (holds e) = sym (inner_none a e)
+    go (fails e) = sym (inner_one a e)
+
 pub inner_le : (a : ℕ) → inner a ≤ 1
 unfolding inner
 inner_le zero = omega arith
@@ -42,26 +53,26 @@ single_length c k (suc a) = refl
 pub record Sums (tiles m : ℕ) (r : Change) : Type 0 where
   pub order : r.lo ≤ r.hi
   pub within : r.hi ≤ tiles
-  pub levels : r.top ≡ r.size + (r.top - r.size)
-  pub fits : r.top ≤ highest_order
+  pub levels : r.whole.size ≡ r.block.size + (r.whole.size - r.block.size)
+  pub fits : r.whole.size ≤ highest_order
   pub few : m ≤ 3 * highest_order + 1
 
 module _ {n : ℕ} {ts : List Tile} {c k a : ℕ} {r : Change} (w : Changes n ts c k a r) where
-  levels : r.top ≡ r.size + (r.top - r.size)
+  levels : r.whole.size ≡ r.block.size + (r.whole.size - r.block.size)
   levels = omega (arith, w.split.sizes)
 
-  pub changes_pieces : 3 * (r.top - r.size) + inner a ≡ length (blocks (claimed (account_at ts) c k a) r.top r.first)
-  changes_pieces = sym (split_length (r.top - r.size) r.top r.first levels w.split ∙ ap (λ (x : ℕ). 3 * (r.top - r.size) + x) (single_length r.corner r.size a))
+  pub changes_pieces : 3 * (r.whole.size - r.block.size) + inner a ≡ length (blocks (claimed (account_at ts) c k a) r.whole.size r.whole.corner)
+  changes_pieces = sym (split_length (r.whole.size - r.block.size) r.whole.size r.whole.corner levels w.split ∙ ap (λ (x : ℕ). 3 * (r.whole.size - r.block.size) + x) (single_length r.block.corner r.block.size a))
 
-  pub changes_tiles : (tiles m : ℕ) → length ts ≡ tiles → m ≡ 3 * (r.top - r.size) + inner a → r.lo + m + (tiles - r.hi) ≡ length (quadtree n (claimed (account_at ts) c k a))
+  pub changes_tiles : (tiles m : ℕ) → length ts ≡ tiles → m ≡ 3 * (r.whole.size - r.block.size) + inner a → r.lo + m + (tiles - r.hi) ≡ length (quadtree n (claimed (account_at ts) c k a))
   changes_tiles tiles m et em = sym (ap length (sym w.result) ∙ length-append (take r.lo ts) _ ∙ omega (
     arith,
-    length-append (blocks (claimed (account_at ts) c k a) r.top r.first) (drop r.hi ts),
+    length-append (blocks (claimed (account_at ts) c k a) r.whole.size r.whole.corner) (drop r.hi ts),
     length-drop r.hi ts,
     length-take-le r.lo ts (omega (arith, w.order, w.within)),
     changes_pieces,
     w.within,
   ))
 
-  pub changes_sums : (tiles m : ℕ) → length ts ≡ tiles → m ≡ 3 * (r.top - r.size) + inner a → n ≤ highest_order → Sums tiles m r
+  pub changes_sums : (tiles m : ℕ) → length ts ≡ tiles → m ≡ 3 * (r.whole.size - r.block.size) + inner a → n ≤ highest_order → Sums tiles m r
   changes_sums tiles m et em hn = record { order = w.order; within = omega (arith, w.within); levels = levels; fits = omega (arith, w.fits); few = omega (arith, inner_le a, w.fits) }

@@ -1,7 +1,7 @@
 -- From what the searches find in the words to the case of the claim.
 --     covered_kept, -split     the tile at lo covers the block
 --     free_cleared, -stands    no larger tile covers it
-use mathlib.Core.Path.{◌≡◌, ◌∙◌, sym}
+use mathlib.Core.Path.{◌≡◌}
 use mathlib.Core.List.{List, map}
 use Prim.Native.Nat.{ℕ, zero, suc, ◌+◌, ◌-◌, ◌^◌, ◌≤◌, ◌<◌}
 use native.Mathlib.Omega.{arith}
@@ -46,12 +46,13 @@ module _ {n : ℕ} {s : List ℕ} {c k a lo : ℕ} (q : Claimable n (map tile_of
   under : lo < length s → At (account_at (map tile_of s)) (4 ^ n) (map tile_of s) lo (tile_of (get_or s lo 0))
   under l = rw (get_or-map tile_of s lo 0) at (tiling_at (tile_of 0) lo whole (omega (arith, length-map s tile_of)))
 
-  module _ (o : Covered s lo c k) (first top owner : ℕ) (ef : first ≡ (tile_of (get_or s lo 0)).corner) (et : top ≡ (tile_of (get_or s lo 0)).size) (eo : owner ≡ (tile_of (get_or s lo 0)).account) where
-    pub covered_kept : owner ≡ a → Changes n (map tile_of s) c k a (record { lo = lo; hi = lo + 1; first = first; top = top; corner = first; size = top; owner = owner })
-    covered_kept x = rw (ef, et, eo) (kept_changes q (under o.some) o.larger o.from (e.past o.some) (omega (arith, o.some, length-map s tile_of)) (tile_of_account _) (sym eo ∙ x))
+  -- t is the tile at lo
+  module _ (o : Covered s lo c k) (t : Tile) (is : t ≡ tile_of (get_or s lo 0)) where
+    pub covered_kept : t.account ≡ a → Changes n (map tile_of s) c k a (record { lo = lo; hi = lo + 1; whole = record { corner = t.corner; size = t.size }; block = record { corner = t.corner; size = t.size }; owner = t.account })
+    covered_kept = rw is (kept_changes q (under o.some) o.larger o.from (e.past o.some) (omega (arith, o.some, length-map s tile_of)) (tile_of_account _))
 
-    pub covered_split : (owner ≡ a → ⊥) → Changes n (map tile_of s) c k a (record { lo = lo; hi = lo + 1; first = first; top = top; corner = c; size = k; owner = owner })
-    covered_split x = rw (ef, et, eo) (split_changes q (under o.some) o.larger o.from (e.past o.some) (omega (arith, o.some, length-map s tile_of)) (tile_of_account _) (λ y. x (eo ∙ y)))
+    pub covered_split : (t.account ≡ a → ⊥) → Changes n (map tile_of s) c k a (record { lo = lo; hi = lo + 1; whole = record { corner = t.corner; size = t.size }; block = record { corner = c; size = k }; owner = t.account })
+    covered_split = rw is (split_changes q (under o.some) o.larger o.from (e.past o.some) (omega (arith, o.some, length-map s tile_of)) (tile_of_account _))
 
   module _ (free : Covered s lo c k → ⊥) {hi : ℕ} (b : FirstPast s lo (c + 4 ^ k) hi) where
     -- a tile that reaches over x, and is not larger than the block, starts from x on
@@ -106,7 +107,7 @@ module _ {n : ℕ} {s : List ℕ} {c k a lo : ℕ} (q : Claimable n (map tile_of
     unfolding tile_at_lem
     free_rest = (tiling_cut_at (tile_of 0) (c + 4 ^ k) hi whole room_hi (past_upto s lo (c + 4 ^ k) hi b (wider lo (past_upto s 0 c lo e (omega arith)))) last_from (claimable_room q)).1
 
-    pub free_cleared : a ≡ 0 → Changes n (map tile_of s) c k a (record { lo = lo; hi = hi; first = c; top = k; corner = c; size = k; owner = 0 })
+    pub free_cleared : a ≡ 0 → Changes n (map tile_of s) c k a (record { lo = lo; hi = hi; whole = record { corner = c; size = k }; block = record { corner = c; size = k }; owner = 0 })
     free_cleared = cleared_changes q lo hi b.low room_hi free_ahead free_rest
 
     pub free_stands : (a ≡ 0 → ⊥) → Stands (claimed (account_at (map tile_of s)) c k a) n (map tile_of s) a lo hi c k

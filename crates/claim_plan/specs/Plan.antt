@@ -33,11 +33,11 @@ pub record Covered (s : List ℕ) (lo c k : ℕ) : Type 0 where
 pub record Changes (n : ℕ) (ts : List Tile) (c k a : ℕ) (r : Change) : Type 0 where
   pub order : r.lo ≤ r.hi
   pub within : r.hi ≤ length ts
-  pub split : Split (claimed (account_at ts) c k a) r.size r.corner a r.owner r.top r.first
-  pub fits : r.top ≤ n
-  pub room : r.first + 4 ^ r.top ≤ 4 ^ n
+  pub split : Split (claimed (account_at ts) c k a) r.block.size r.block.corner a r.owner r.whole.size r.whole.corner
+  pub fits : r.whole.size ≤ n
+  pub room : r.whole.corner + 4 ^ r.whole.size ≤ 4 ^ n
   pub owner : r.owner ≤ highest_account
-  pub result : take r.lo ts ++ (blocks (claimed (account_at ts) c k a) r.top r.first ++ drop r.hi ts) ≡
+  pub result : take r.lo ts ++ (blocks (claimed (account_at ts) c k a) r.whole.size r.whole.corner ++ drop r.hi ts) ≡
       quadtree n (claimed (account_at ts) c k a)
 
 unfoldable pub inner : ℕ → ℕ
@@ -46,5 +46,5 @@ inner (suc a) = 1
 
 pub record Plans (n : ℕ) (ts : List Tile) (c k a : ℕ) (r : Planned) : Type 0 where
   pub change : Changes n ts c k a r.change
-  pub pieces : r.pieces ≡ length (blocks (claimed (account_at ts) c k a) r.change.top r.change.first)
+  pub pieces : r.pieces ≡ length (blocks (claimed (account_at ts) c k a) r.change.whole.size r.change.whole.corner)
   pub tiles : r.tiles ≡ length (quadtree n (claimed (account_at ts) c k a))

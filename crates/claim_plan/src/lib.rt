@@ -1,29 +1,30 @@
-// The plan of a claim, which only reads: which tiles of a valid list go, which tiles come in their place, and how many
-// the list then has.
+// The plan of a claim, which only reads: which tiles of a checked list go, which tiles come in their place, and how
+// many the list then has.
 #![tactic(auto)]
 
 ghost use Rattle.std.specs.Prelude.{◌≡◌, map, ◌+◌, ◌*◌, ◌≤◌, length};
 ghost use Rattle.basics.specs.Test.{Test};
 ghost use Rattle.tile.specs.Tile.{tile_of, highest_order};
-ghost use Rattle.tile.specs.Slots.{tiles_in};
 ghost use Rattle.list_search.specs.FirstPast.{FirstPast};
 ghost use Rattle.claim_plan.specs.Plan.{Claimable, Covered, Changes, inner, Plans};
 
-// The tiles from `lo` up to `hi` give way to those of the block of size `top` at the corner `first`, in which the block
-// of size `size` at `corner` has the claimed account and the rest is the owner's.
-#[derive(Clone, Copy)]
+use claim_merge::Standing;
+use list_check::Quadtree;
+use tile::{Block, Tile};
+
+// The tiles from `lo` up to `hi` give way to those of the block `whole`, in which `block` has the claimed account and
+// the rest is the owner's.
+#[derive(Clone, Copy, Debug, PartialEq, Eq)]
 pub struct Change {
     pub lo: usize,
     pub hi: usize,
-    pub first: u32,
-    pub top: u32,
-    pub corner: u32,
-    pub size: u32,
+    pub whole: Block,
+    pub block: Block,
     pub owner: u8,
 }
 
 // A change, how many tiles come, and how many the list then has.
-#[derive(Clone, Copy)]
+#[derive(Clone, Copy, Debug, PartialEq, Eq)]
 pub struct Planned {
     pub change: Change,
     pub pieces: usize,
@@ -31,83 +32,90 @@ pub struct Planned {
 }
 
 // Is the tile at lo larger than the block, and does it not start behind its corner?
-fn covered(list: &[u32], lo: usize, corner: u32, size: u32) -> bool
-    ensures { Test (Covered list.now lo corner size) result }
+fn covered(list: &[u32], lo: usize, block: Block) -> bool
+    ensures { Test (Covered list.now lo block.corner block.size) result }
 {
     if list.len() <= lo {
         return false;
     }
-    let w = list[lo];
-    if tile::size(w) <= size {
+    let Tile { corner, size, .. } = Tile::from(list[lo]);
+    if size <= block.size {
         return false;
     }
-    if corner < tile::corner(w) {
-        return false;
-    }
-    true
+    corner <= block.corner
 }
 
-// The change where the tile at lo covers the block: it is split, or kept if the account is its own.
-fn split(order: u32, list: &[u32], lo: usize, corner: u32, size: u32, account: u8) -> Change
-    requires { Claimable order (map tile_of list.now) corner size account × FirstPast list.now 0 corner lo
-        × Covered list.now lo corner size }
-    ensures { Changes order (map tile_of list.now) corner size account result }
+// The change where the tile at lo covers the block of the tile claimed: it is split, or kept if the account is its own.
+fn split(tree: Quadtree<'_>, lo: usize, tile: Tile) -> Change
+    requires { Claimable tree.order (map tile_of tree.words.now) tile.corner tile.size tile.account
+        × FirstPast tree.words.now 0 tile.corner lo × Covered tree.words.now lo tile.corner tile.size }
+    ensures { Changes tree.entry.order (map tile_of tree.entry.words.now) tile.corner tile.size tile.account result }
 {
-    let w = list[lo];
-    let first = tile::corner(w);
-    let top = tile::size(w);
-    let owner = tile::account(w);
-    if owner == account {
+    let Tile {
+        corner,
+        size,
+        account,
+    } = Tile::from(tree.words[lo]);
+    let whole = Block { corner, size };
+    let owner = account;
+    if owner == tile.account {
         return Change {
             lo,
             hi: lo + 1,
-            first,
-            top,
-            corner: first,
-            size: top,
+            whole,
+            block: whole,
             owner,
         };
     }
+    let block = Block {
+        corner: tile.corner,
+        size: tile.size,
+    };
     Change {
         lo,
         hi: lo + 1,
-        first,
-        top,
-        corner,
-        size,
+        whole,
+        block,
         owner,
     }
 }
 
-// What the claim of a block for an account changes.
-fn find_change(order: u32, list: &[u32], corner: u32, size: u32, account: u8) -> Change
-    requires { Claimable order (map tile_of list.now) corner size account }
-    ensures { Changes order (map tile_of list.now) corner size account result }
+// What the claim of a tile's block for its account changes.
+fn find_change(tree: Quadtree<'_>, tile: Tile) -> Change
+    requires { Claimable tree.order (map tile_of tree.words.now) tile.corner tile.size tile.account }
+    ensures { Changes tree.entry.order (map tile_of tree.entry.words.now) tile.corner tile.size tile.account result }
 {
-    let lo = list_search::first_past(list, 0, corner);
-    if covered(list, lo, corner, size) {
-        return split(order, list, lo, corner, size, account);
+    let Quadtree { order, words, .. } = tree;
+    let Tile {
+        corner,
+        size,
+        account,
+    } = tile;
+    let block = Block { corner, size };
+    let lo = list_search::first_past(words, 0, corner);
+    if covered(words, lo, block) {
+        return split(tree, lo, tile);
     }
-    let hi = list_search::first_past(list, lo, corner + tile::area(size));
+    let hi = list_search::first_past(words, lo, corner + tile::area(size));
     if account == 0 {
         return Change {
             lo,
             hi,
-            first: corner,
-            top: size,
-            corner,
-            size,
+            whole: block,
+            block,
             owner: 0,
         };
     }
-    let r = claim_merge::merge(order, list, lo, hi, corner, size, account);
+    let Standing { lo, hi, tile } = claim_merge::merge(order, words, Standing { lo, hi, tile });
+    let block = Block {
+        corner: tile.corner,
+        size: tile.size,
+    };
     Change {
-        lo: r.lo,
-        hi: r.hi,
-        first: r.corner,
-        top: r.size,
-        corner: r.corner,
-        size: r.size,
+        lo,
+        hi,
+        whole: block,
+        block,
         owner: 0,
     }
 }
@@ -117,20 +125,17 @@ fn count_pieces(levels: u32, account: u8) -> usize
     requires { levels ≤ highest_order }
     ensures { result ≡ 3 * levels + inner account }
 {
-    if account == 0 {
-        return 3 * levels as usize;
-    }
-    3 * levels as usize + 1
+    3 * levels as usize + usize::from(account != 0)
 }
 
-// Plans the claim of a block for an account, in a valid list: what changes, and how many tiles the list then has.
-pub fn plan(order: u32, tiles: usize, slots: &[u32], corner: u32, size: u32, account: u8) -> Planned
-    requires { (tiles ≤ length slots.now) × Claimable order (tiles_in tiles slots.now) corner size account }
-    ensures { Plans order (tiles_in tiles slots.now) corner size account result }
+// Plans the claim of a tile's block for its account: what changes, and how many tiles the list then has.
+pub fn plan(tree: Quadtree<'_>, tile: Tile) -> Planned
+    requires { Claimable tree.order (map tile_of tree.words.now) tile.corner tile.size tile.account }
+    ensures { Plans tree.entry.order (map tile_of tree.entry.words.now) tile.corner tile.size tile.account result }
 {
-    let change = find_change(order, &slots[..tiles], corner, size, account);
-    let pieces = count_pieces(change.top - change.size, account);
-    let left = tiles - change.hi;
+    let change = find_change(tree, tile);
+    let pieces = count_pieces(change.whole.size - change.block.size, tile.account);
+    let left = tree.words.len() - change.hi;
     Planned {
         change,
         pieces,
