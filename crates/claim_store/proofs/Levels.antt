@@ -2,7 +2,8 @@
 --     both_written      equal tiles written on both sides, and what is between them left to write
 --     Turned ..      the numbers of one level
 --     Putting ..     the tiles of the block of size s at d are left to write from `left` up to `right`
---     level, put_level          one level written
+--     part_written      a part of the slots written
+--     level, put_level, put_parts   one level written; behind_length: as many slots behind as tiles
 --     put_room, put_one, put_none   the block itself, and the end
 use mathlib.Core.Path.{◌≡◌, ◌∙◌, refl, ap, sym}
 use mathlib.Core.List.{List, [], ◌∷◌, ◌++◌, map, append_assoc, map-append}
@@ -11,6 +12,7 @@ use native.Mathlib.Omega.{arith}
 use native.Mathlib.Nat.{add-mul}
 use lib.ListN.{length, take, drop, set, length-append, length-drop, length-map, take-append-drop}
 use lib.Seq.{set_split, take_at, drop_at, take-take, take-append-le, drop-drop, length-take-le, drop-append-add}
+use borrow.Rule.Slice.PartMut.{put_mid}
 use Rattle.tile.specs.Tile.{tile, word_of, highest_order}
 use Rattle.quadtree.specs.Quadtree.{single}
 use Rattle.quadtree.proofs.Alignment.{area_pos}
@@ -48,6 +50,23 @@ both_written t u w x r1 r2 left right i j ei ej h l eu ew =
 
     back : drop right w ≡ r2 ++ drop (right + j) t
     back = rw (ew, drop_at (take right u) (r2 ++ drop (right + j) u) right (length-take-le right u (omega (arith, lu))), far)
+
+-- a part of so many slots is written
+abbrev pub PartWritten : List ℕ → ℕ → ℕ → ℕ → ℕ → ℕ → List ℕ → Type 0
+PartWritten t at i k a x ys = ys ≡ map word_of (equal_tiles k a (length (take (at + i - at) (drop at t))) x)
+
+part_length : (t : List ℕ) (at i : ℕ) → at + i ≤ length t → length (take (at + i - at) (drop at t)) ≡ i
+part_length t at i h = let e : at + i - at ≡ i = omega arith in rw e (length-take-le i (drop at t) (omega (arith, length-drop at t)))
+
+part_written : (t : List ℕ) (at i k a x : ℕ) {ys : List ℕ} → at + i ≤ length t → PartWritten t at i k a x ys →
+    put_mid at (at + i - at) t ys ≡ take at t ++ (map word_of (equal_tiles k a i x) ++ drop (at + i) t)
+part_written t at i k a x h w =
+    let e : at + i - at ≡ i = omega arith in
+    let l = part_length t at i h in
+    rw (w, l, e, drop-drop i at t)
+
+words_length : (t : List ℕ) (at i k a x : ℕ) → at + i ≤ length t → length (take at t ++ (map word_of (equal_tiles k a i x) ++ drop (at + i) t)) ≡ length t
+words_length t at i k a x h = simp (length-append, length-map, equal_tiles_length, length-drop) (omega (arith, length-take-le at t (omega arith)))
 
 pub record Turned (len left k c a v s d area : ℕ) : Type 0 where
   pub four : (c - d) / area ≤ 3
@@ -108,7 +127,7 @@ module _ {b t : List ℕ} {left right k c a v s d area : ℕ} (m : Putting b t l
   back : right - (3 - (c - d) / area) + (3 - (c - d) / area) ≡ right
   back = omega (arith, level.four, m.end)
 
-  pub put_level : {u r : List ℕ} → u ≡ take left t ++ (map word_of (equal_tiles (s - 1) v ((c - d) / area) d) ++ drop (left + (c - d) / area) t) →
+  put_level : {u r : List ℕ} → u ≡ take left t ++ (map word_of (equal_tiles (s - 1) v ((c - d) / area) d) ++ drop (left + (c - d) / area) t) →
       r ≡ take (right - (3 - (c - d) / area)) u ++ (map word_of (equal_tiles (s - 1) v (3 - (c - d) / area) (d + (c - d) / area * area + area)) ++ drop (right - (3 - (c - d) / area) + (3 - (c - d) / area)) u) →
       length r ≡ length t → Putting b r (left + (c - d) / area) (right - (3 - (c - d) / area)) k c a v (s - 1) (d + (c - d) / area * area)
   put_level {u} {r} eu ew lr = record { drawn = rw lr level.drawn; end = omega (arith, level.four, m.end); rest = m.rest ∙ ap (λ (l : List ℕ). take left t ++ (l ++ drop right t)) (pieces_step k c a v s d area h es) ∙ sym (rw back at both) }
@@ -119,6 +138,32 @@ module _ {b t : List ℕ} {left right k c a v s d area : ℕ} (m : Putting b t l
       both : take (left + (c - d) / area) r ++ (map word_of (pieces k c a v (s - 1 - k) (d + (c - d) / area * area)) ++ drop (right - (3 - (c - d) / area)) r) ≡
           take left t ++ ((map word_of (equal_tiles (s - 1) v ((c - d) / area) d) ++ (map word_of (pieces k c a v (s - 1 - k) (d + (c - d) / area * area)) ++ map word_of (equal_tiles (s - 1) v (3 - (c - d) / area) (d + (c - d) / area * area + area)))) ++ drop (right - (3 - (c - d) / area) + (3 - (c - d) / area)) t)
       both = both_written t u r (map word_of (pieces k c a v (s - 1 - k) (d + (c - d) / area * area))) (map word_of (equal_tiles (s - 1) v ((c - d) / area) d)) (map word_of (equal_tiles (s - 1) v (3 - (c - d) / area) (d + (c - d) / area * area + area))) left (right - (3 - (c - d) / area)) ((c - d) / area) (3 - (c - d) / area) (side_length _ _) (side_length _ _) (omega (arith, level.four, m.end)) (omega (arith, back, m.end, m.drawn.fits)) eu ew
+
+  -- the part ahead is written, then the part behind
+  module _ {ys : List ℕ} (wy : PartWritten t left ((c - d) / area) (s - 1) v d ys) where
+    abbrev half : List ℕ
+    half = put_mid left (left + (c - d) / area - left) t ys
+
+    front : left + (c - d) / area ≤ length t
+    front = omega (arith, level.drawn.fits)
+
+    half_is : half ≡ take left t ++ (map word_of (equal_tiles (s - 1) v ((c - d) / area) d) ++ drop (left + (c - d) / area) t)
+    half_is = part_written t left ((c - d) / area) (s - 1) v d front wy
+
+    half_length : length half ≡ length t
+    half_length = ap length half_is ∙ words_length t left ((c - d) / area) (s - 1) v d front
+
+    room : right - (3 - (c - d) / area) + (3 - (c - d) / area) ≤ length half
+    room = omega (arith, half_length, back, m.end, m.drawn.fits)
+
+    pub behind_length : length (take (right - (3 - (c - d) / area) + (3 - (c - d) / area) - (right - (3 - (c - d) / area))) (drop (right - (3 - (c - d) / area)) half)) ≡ 3 - (c - d) / area
+    behind_length = part_length half (right - (3 - (c - d) / area)) (3 - (c - d) / area) room
+
+    pub put_parts : {zs : List ℕ} → PartWritten half (right - (3 - (c - d) / area)) (3 - (c - d) / area) (s - 1) v (d + (c - d) / area * area + area) zs →
+        Putting b (put_mid (right - (3 - (c - d) / area)) (right - (3 - (c - d) / area) + (3 - (c - d) / area) - (right - (3 - (c - d) / area))) half zs) (left + (c - d) / area) (right - (3 - (c - d) / area)) k c a v (s - 1) (d + (c - d) / area * area)
+    put_parts {zs} wz =
+        let ew = part_written half (right - (3 - (c - d) / area)) (3 - (c - d) / area) (s - 1) v (d + (c - d) / area * area + area) room wz in
+        put_level half_is ew (ap length ew ∙ words_length half (right - (3 - (c - d) / area)) (3 - (c - d) / area) (s - 1) v (d + (c - d) / area * area + area) room ∙ half_length)
 
 single_words : (k c a : ℕ) → 0 < a → map word_of (single c k a) ≡ word_of (tile c k a) ∷ []
 single_words k c a h = rw (single_some c k a h)

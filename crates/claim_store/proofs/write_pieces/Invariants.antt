@@ -1,17 +1,13 @@
 -- Level by level: what is left to write makes the slots that are promised.
 use mathlib.Core.List.{map, ◌++◌}
-use mathlib.Core.Path.{◌≡◌}
 use Prim.Native.Nat.{◌+◌, ◌-◌}
-use lib.ListN.{length, take, drop}
+use lib.ListN.{take, drop}
 use Rattle.tile.specs.Tile.{word_of}
 use Rattle.claim_split.specs.Split.{pieces}
 use Rattle.claim_store.proofs.Levels.{Putting}
 use Rattle.claim_store.proofs.write_pieces.Given as goal
 
 abbrev pub invariant-loop-s : goal.invariant-loop-s
-invariant-loop-s l = let pieced = pieces l.change.size l.change.corner l.account l.change.owner (l.change.top - l.change.size) l.change.first in
+invariant-loop-s l = let pieced = pieces l.change.block.size l.change.block.corner l.account l.change.owner (l.change.whole.size - l.change.block.size) l.change.whole.corner in
     Putting (take l.change.lo l.initial.slots ++ (map word_of pieced ++ drop (l.change.lo + l.count) l.initial.slots))
-    l.slots l.left l.right l.change.size l.change.corner l.account l.change.owner l.s l.d × (length l.slots ≡ length l.initial.slots)
-
-abbrev pub decreases-loop-s : goal.decreases-loop-s
-decreases-loop-s l = l.s - l.change.size
+    l.slots l.left l.right l.change.block.size l.change.block.corner l.account l.change.owner l.s l.d
