@@ -4,7 +4,6 @@
 --     names_cong         it goes by the raster's accounts on the bed
 --     free_size_fits, free_size_free, free_size_top   the largest free block's size, by what it says
 --     free_names         for a nobody's pixel it is the free block
---     Blank k n s f      what is not scanned is nobody's
 --     tile_names         for somebody's pixel it is the tile
 --     by_tile_at          a fact of the tile found, by whether one is
 --     block_at_names      a valid list's block is the one named
@@ -30,7 +29,7 @@ use Rattle.bed.specs.declared.Kind.{Kind}
 use Rattle.bed.specs.Places.{place_of}
 use Rattle.bed.specs.Bed.{Bed, bed_of}
 use Rattle.bed.proofs.ScannedBlocks.{test_scanned}
-use Rattle.lookup.specs.Block.{tile_at, free_in, free_size, free_block, block_at, WhollyScanned, Names}
+use Rattle.lookup.specs.Block.{tile_at, free_in, free_size, free_block, block_at, WhollyScanned, Names, Blank}
 
 module _ {b : Bed} {z : ℕ} where
   names_below : {t d : Tile} → Names b z t → Names b z d → t.account ≡ d.account → t.size < d.size → ⊥
@@ -129,10 +128,6 @@ by_tile_at Q d (t ∷ ts) z found none = by_test Q (test_covers t z)
 pub block_at_tile : (b : Bed) (ts : List Tile) (z : ℕ) → 0 < (block_at b ts z).account → block_at b ts z ∈ ts
 unfolding block_at free_block
 block_at_tile b ts z = by_tile_at (λ (d : Tile). 0 < d.account → d ∈ ts) (free_block b z) ts z (λ t i c h. i) (λ e h. absurd (omega arith))
-
--- what is not scanned is nobody's
-abbrev pub Blank : Kind → ℕ → ℕ → (ℕ → ℕ) → Type 0
-Blank k n s f = (z : ℕ) → z < 4 ^ n → s ≤ place_of k n z → f z ≡ 0
 
 module _ (k : Kind) (n s : ℕ) (ts : List Tile) (valid : Valid n ts) (blank : Blank k n s (account_at ts)) where
   abbrev bed : Bed

@@ -36,7 +36,7 @@ use Rattle.checks.proofs.AskedLaws.{block_passed}
 use Rattle.scan_check.specs.Opening.{opening}
 use Rattle.scan_check.proofs.ScannedLaws.{pixel_unscanned, pixel_scanned}
 use Rattle.scan_check.proofs.Opening.{opened_opening}
-use Rattle.lookup.specs.declared.Found.{Found}
+use Rattle.lookup.specs.declared.LookupAnswer.{LookupAnswer}
 use Rattle.lookup.specs.Block.{block_at, WhollyScanned, Names}
 use Rattle.lookup.specs.Lookup.{lookup_check, found_of, lookup_of}
 use Rattle.lookup.specs.Promises.{block_of, LookupNames, LookupBed, LookupTile, LookupAlike, LookupWhole, LookupLast}
@@ -82,7 +82,7 @@ lookup_bed m b c r o s low blank room h g =
 pub lookup_tile : LookupTile
 unfolding LookupTile lookup_of
 lookup_tile scan slots c r =
-    by_unless (λ (a : Found). 0 < a.account → block_of a ∈ tiles_in scan.tiles slots) (lookup_check scan slots c r) (λ x h. absurd (omega arith))
+    by_unless (λ (a : LookupAnswer). 0 < a.account → block_of a ∈ tiles_in scan.tiles slots) (lookup_check scan slots c r) (λ x h. absurd (omega arith))
     (λ e. block_at_tile (shown_bed scan slots) (tiles_in scan.tiles slots) (morton scan.order c r))
 
 pub lookup_account : (scan : Scan) (slots : List ℕ) (c r : ℕ) → lookup_check scan slots c r ≡ accepted → (lookup_of scan slots c r).account ≡ account_at (tiles_in scan.tiles slots) (morton scan.order c r)
@@ -117,7 +117,7 @@ module _ (scan : Scan) (slots : List ℕ) (c r : ℕ) (e : (lookup_of scan slots
   module _ (c' r' : ℕ) where
     alike_square : lookup_of scan slots c' r' ≡ found_of block → Square n block.size block.corner c' r'
     alike_square h =
-        let g = sym (lookup_of_number scan slots c' r') ∙ ap (λ (a : Found). a.number) h in
+        let g = sym (lookup_of_number scan slots c' r') ∙ ap (λ (a : LookupAnswer). a.number) h in
         let p = lookup_check_passed scan slots c' r' g in
         let s = ap block_of (sym (lookup_of_block scan slots c' r' g) ∙ h) in
         let v = rw s at (point_names scan slots c' r' p).has in

@@ -6,14 +6,16 @@
 --     free_block b z     that block, as a tile of nobody's
 --     block_at b ts z    the block named: for somebody's pixel the tile of the bed's list ts, for a nobody's pixel the
 --                       free block
+--     Blank k n s f     what of the raster f is not among the first s pixels scanned, by the kind k, is nobody's
 --     WhollyScanned b lo hi   each pixel from lo up to hi, hi left out, is scanned
 --     Names b z t       t is the largest quadrant block that has the pixel z, is wholly scanned and has one account
 -- That lookup answers what `Names` says, whoever has the pixel, and that there is one such block, is the promise
 -- `LookupNames`.
-use Rattle.std.specs.Prelude.{Bool, true, false, ◌&&◌, not, List, [], ◌∷◌, ℕ, zero, suc, ◌+◌, ◌^◌, ◌≤◌, ◌<◌}
+use Rattle.std.specs.Prelude.{◌≡◌, Bool, true, false, ◌&&◌, not, List, [], ◌∷◌, ℕ, zero, suc, ◌+◌, ◌^◌, ◌≤◌, ◌<◌}
 use Rattle.tile.specs.declared.Tile.{Tile}
 use Rattle.tile.specs.Tile.{tile, stop, corner_at}
 use Rattle.quadtree.specs.Raster.{Aligned, Covers, covers, Uniform, uniform}
+use Rattle.bed.specs.declared.Kind.{Kind}
 use Rattle.bed.specs.Places.{place_of, unscanned_in}
 use Rattle.bed.specs.Bed.{Bed}
 
@@ -34,6 +36,10 @@ free_block b z = tile (corner_at (free_size b b.order z) z) (free_size b b.order
 
 unfoldable pub block_at : Bed → List Tile → ℕ → Tile
 block_at b ts z = tile_at (free_block b z) ts z
+
+-- what is not scanned is nobody's
+abbrev pub Blank : Kind → ℕ → ℕ → (ℕ → ℕ) → Type 0
+Blank k n s f = (z : ℕ) → z < 4 ^ n → s ≤ place_of k n z → f z ≡ 0
 
 abbrev pub WhollyScanned : Bed → ℕ → ℕ → Type 0
 WhollyScanned b lo hi = (z : ℕ) → lo ≤ z → z < hi → place_of b.kind b.order z < b.scanned

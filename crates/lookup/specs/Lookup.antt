@@ -14,17 +14,17 @@ use Rattle.bed.specs.Shown.{shown_bed}
 use Rattle.checks.specs.Asked.{point_check}
 use Rattle.scan_check.specs.Opening.{opening}
 use Rattle.scan_check.specs.Scanned.{scanned_check}
-use Rattle.lookup.specs.declared.Found.{Found}
+use Rattle.lookup.specs.declared.LookupAnswer.{LookupAnswer}
 use Rattle.lookup.specs.Block.{block_at}
 
 unfoldable pub lookup_check : Scan → List ℕ → ℕ → ℕ → ℕ
 lookup_check scan slots c r = or_else (opening scan slots)
     (or_else (point_check scan.order c r) (scanned_check scan (morton scan.order c r)))
 
-abbrev pub found_of : Tile → Found
+abbrev pub found_of : Tile → LookupAnswer
 found_of b = record { number = accepted; account = b.account; corner = b.corner; size = b.size }
 
-unfoldable pub lookup_of : Scan → List ℕ → ℕ → ℕ → Found
+unfoldable pub lookup_of : Scan → List ℕ → ℕ → ℕ → LookupAnswer
 lookup_of scan slots c r =
     unless (lookup_check scan slots c r)
     (λ number. record { number = number; account = 0; corner = 0; size = 0 })

@@ -26,11 +26,11 @@ use Rattle.bed.specs.Bed.{Bed}
 use Rattle.bed.specs.Shown.{shown_bed}
 use Rattle.checks.specs.Asked.{block_check}
 use Rattle.scan_check.specs.Opening.{opening}
-use Rattle.lookup.specs.declared.Found.{Found}
+use Rattle.lookup.specs.declared.LookupAnswer.{LookupAnswer}
 use Rattle.lookup.specs.Block.{WhollyScanned, Names}
 use Rattle.lookup.specs.Lookup.{lookup_of}
 
-abbrev pub block_of : Found → Tile
+abbrev pub block_of : LookupAnswer → Tile
 block_of a = tile a.corner a.size a.account
 
 unfoldable pub LookupNames : Type 0
@@ -39,7 +39,7 @@ LookupNames = (scan : Scan) (slots : List ℕ) (c r : ℕ) → (lookup_of scan s
     × ((t : Tile) → Names (shown_bed scan slots) (morton scan.order c r) t → t ≡ block_of (lookup_of scan slots c r))
 
 -- the lookup on a bed's map, which is in m slots, with the record of its scan
-abbrev pub bed_lookup : ℕ → Bed → ℕ → ℕ → Found
+abbrev pub bed_lookup : ℕ → Bed → ℕ → ℕ → LookupAnswer
 bed_lookup m b c r =
     let list : List Tile = quadtree b.order b.account in
     lookup_of (scan_of b.kind b.order b.scanned (length list)) (filled m list) c r

@@ -8,14 +8,14 @@ use Rattle.bed.specs.declared.Kind.TheVariants.{Rows, Morton}
 use Rattle.bed.specs.declared.Scan.{Scan}
 use Rattle.bed.specs.Places.{scan_of}
 use Rattle.bed.specs.Worked.{slots_m}
-use Rattle.lookup.specs.declared.Found.{Found}
+use Rattle.lookup.specs.declared.LookupAnswer.{LookupAnswer}
 use Rattle.lookup.specs.Lookup.{found_of, lookup_of}
 
 -- the record by rows of order n with t tiles, of which every pixel is scanned
 abbrev pub whole : ℕ → ℕ → Scan
 whole n t = scan_of Rows n (4 ^ n) t
 
-abbrev pub refused : ℕ → Found
+abbrev pub refused : ℕ → LookupAnswer
 refused number = record { number = number; account = 0; corner = 0; size = 0 }
 
 pub record LookupLines : Type 0 where

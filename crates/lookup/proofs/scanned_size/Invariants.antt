@@ -5,6 +5,3 @@ use Rattle.lookup.proofs.scanned_size.Given as goal
 
 abbrev pub invariant-loop-k : goal.invariant-loop-k
 invariant-loop-k l = (l.k ≤ l.size) × (l.k < l.size → Scanned l.scan (suc l.k) l.z → ⊥)
-
-abbrev pub decreases-loop-k : goal.decreases-loop-k
-decreases-loop-k l = l.k
