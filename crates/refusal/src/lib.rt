@@ -66,32 +66,38 @@ impl fmt::Display for Refusal {
     fn fmt<W: fmt::Write>(&self, f: &mut fmt::Formatter<W>) -> fmt::Result {
         f.write_str(match self {
             Refusal::OrderTooLarge => "the order is above 10",
-            Refusal::CountAboveSlots => "the tile count is above the lent slots",
-            Refusal::HighBitsSet => "bit 31 or 30 of a tile word is set",
+            Refusal::CountAboveSlots => "the tile count is above the number of slots",
+            Refusal::HighBitsSet => "a tile word has bit 31 or 30 set",
             Refusal::SizeAboveOrder => "a tile is larger than the bed",
-            Refusal::CornerInvalid => "a tile's corner is off the bed or is none of a quadrant",
-            Refusal::AccountZero => "a tile is nobody's",
-            Refusal::TilesOverlap => "a tile starts before the end of the one ahead of it",
-            Refusal::SiblingsUnmerged => "four sibling tiles of one account are not merged",
+            Refusal::CornerInvalid =>
+                "a tile's corner is off the bed or not a multiple of its area",
+            Refusal::AccountZero => "a tile has account 0",
+            Refusal::TilesOverlap => "a tile begins before the end of the tile ahead of it",
+            Refusal::SiblingsUnmerged =>
+                "four tiles of one account are the quarters of one block and should be one tile",
             Refusal::ScannedTooLarge => "more pixels are scanned than the bed has",
-            Refusal::TileUnscanned => "a tile covers an unscanned pixel",
-            Refusal::ScanFull => "the scan has all pixels already",
-            Refusal::AccountTooLarge => "an account is above 63",
-            Refusal::SlotsExceeded => "the list takes more slots than are lent",
-            Refusal::BytesTooFew => "fewer bytes are lent than it takes",
-            Refusal::PointOutside => "the point is off the bed",
-            Refusal::BlockInvalid => "the block is no quadrant of the bed",
-            Refusal::RasterLength => "the raster has another length than the bed has pixels",
-            Refusal::AskerInvalid => "the asking account is nobody's or above 63",
-            Refusal::FileCutShort => "the bytes end before the item read",
-            Refusal::TrailingBytes => "bytes follow the roster",
-            Refusal::RosterWrong => "the roster is not that of the tiles",
+            Refusal::TileUnscanned => "a tile covers a pixel that is not scanned yet",
+            Refusal::ScanFull => "the scan already has every pixel",
+            Refusal::AccountTooLarge => "the account is above 63",
+            Refusal::SlotsExceeded => "the list would have more tiles than there are slots",
+            Refusal::BytesTooFew => "the bytes lent are fewer than the file or the text takes",
+            Refusal::PointOutside => "the pixel is off the bed",
+            Refusal::BlockInvalid =>
+                "the block is larger than the bed, off the bed, or its corner not a multiple of its area",
+            Refusal::RasterLength => "the raster does not have one byte for each pixel",
+            Refusal::AskerInvalid => "the asking account is 0 or above 63",
+            Refusal::FileCutShort => "the file ends too early",
+            Refusal::TrailingBytes => "bytes follow the end of the file's roster",
+            Refusal::RosterWrong => "the file's roster does not match its tiles",
             Refusal::OrdersDiffer => "the two maps have different orders",
-            Refusal::Unscanned => "what is asked is not scanned",
-            Refusal::PositionInvalid => "the text is no position on the bed",
-            Refusal::RosterUnsorted => "a roster entry is not above the one ahead of it",
-            Refusal::TableMalformed => "the table of rights is malformed",
-            Refusal::TableUnsound => "the table of rights is unsound",
+            Refusal::Unscanned => "the pixel, the block or the bed is not wholly scanned yet",
+            Refusal::PositionInvalid =>
+                "the text is no position in mils, or the position is off the bed",
+            Refusal::RosterUnsorted =>
+                "the accounts in the file's roster do not rise from entry to entry",
+            Refusal::TableMalformed =>
+                "the table of rights has a wrong count, a wrong length or a byte above 1",
+            Refusal::TableUnsound => "a row of the table of rights lacks a yes that it must have",
         })
     }
 }
