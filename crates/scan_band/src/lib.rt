@@ -9,11 +9,11 @@ ghost use Rattle.scan_ways.specs.Bands.{many, BandFits};
 ghost use Rattle.scan_band.specs.Banded.{Banded};
 
 use bed::Point;
-use scan_block::RowFeed;
+use scan_block::Feed;
 use scan_gap::Gap;
 
 // Puts the accounts of a band, block by block: the column moves by a block's side.
-pub fn put_band(slots: &mut [u32], gap: Gap, feed: RowFeed, row: u32, size: u32) -> Gap
+pub fn put_band(slots: &mut [u32], gap: Gap, feed: Feed, row: u32, size: u32) -> Gap
     requires fits { Fits slots.old gap.front gap.back }
     requires band_fits { BandFits feed.order feed.start feed.accounts.now row size }
     ensures { Banded slots.old slots.new gap.front gap.back feed.entry.order feed.entry.start

@@ -132,16 +132,16 @@ pub fn put_stretch(
     moved
 }
 
-// The accounts of a scan by rows, from the place `start` on, on a bed of an order.
+// The accounts of a feed: those of the places from `start` on, on a bed of an order.
 #[derive(Clone, Copy)]
-pub struct RowFeed<'a> {
+pub struct Feed<'a> {
     pub order: u32,
     pub start: u32,
     pub accounts: &'a [u8],
 }
 
-impl RowFeed<'_> {
-    // The number of the account of the pixel z, where z is in the block that ends at `end`.
+impl Feed<'_> {
+    // In a scan by rows the number of the account of the pixel z, where z is in the block that ends at `end`.
     fn index_at(self, z: u32, end: u32) -> usize
         requires { (self.order ≤ highest_order) × (end ≤ 4 ^ self.order)
             × (z < end → self.start ≤ place_of Rows self.order z) }
@@ -156,14 +156,14 @@ impl RowFeed<'_> {
 
 // Puts the accounts of the block of a size at a point, in Morton order: the gap moves to the block once. The account's
 // number moves with z by a varying step, and is worked out only where another quad follows.
-pub fn put_block(slots: &mut [u32], gap: Gap, feed: RowFeed, point: Point, size: u32) -> Gap
+pub fn put_block(slots: &mut [u32], gap: Gap, feed: Feed, point: Point, size: u32) -> Gap
     requires fits { Fits slots.old gap.front gap.back }
     requires block_fits { BlockFits feed.order feed.start feed.accounts.now point.column point.row size }
     ensures { Blocked slots.old slots.new gap.front gap.back feed.entry.order feed.entry.start
         feed.entry.accounts.now (morton side_bits point.column point.row)
         (morton side_bits point.column point.row + 4 ^ size) result }
 {
-    let RowFeed {
+    let Feed {
         order,
         start,
         accounts,

@@ -29,9 +29,7 @@ use Rattle.bed.specs.Shown.{shown_bed}
 use Rattle.scan_gap.specs.Gap.{held, Fits, Low}
 use Rattle.scan_gap.proofs.Parts.{held_front}
 use Rattle.scan_check.specs.Opened.{Opened}
-use Rattle.scan_feed.specs.Feeding.{Trails, Holds, Stepped, FedOn, FedTo}
-use Rattle.scan_feed.specs.declared.AfterPixel.{AfterPixel}
-use Rattle.scan_feed.specs.declared.AfterPixels.{AfterPixels}
+use Rattle.scan_feed.specs.Feeding.{AfterPixel, AfterPixels, Trails, Holds, Stepped, FedOn, FedTo}
 use Rattle.scan_feed.proofs.NextPlace.{holds_next}
 
 module _ (m k : ℕ) (b : bed.Bed) (a : ℕ) (bytes : List ℕ) where

@@ -1,4 +1,6 @@
 -- Inner: one account of a feed and all of them, on a list with a gap. Definitions only.
+--     AfterPixel, left r          what one account leaves: its refusal's number, or that it is accepted, and the gap
+--     AfterPixels, reached r      what a feed leaves: that number, the count taken, the pixels scanned, and the gap
 --     AtPlace k n s p             p is the pixel with s places before its own in the scan of kind k and order n, with
 --                                 its levels
 --     Trails k s i b p            in Morton order no word lies behind the gap, and the last tile ahead of it starts
@@ -14,8 +16,9 @@
 --     FedOn k n bytes j p s t i b r   so it is from the slots s to t, of each raster whose list is in s
 --     FedTo c e t r               the answer r and the list with a gap in the slots t are what the plain bed's feed e
 --                                 gives
-use Rattle.std.specs.Prelude.{◌≡◌, List, ℕ, ◌+◌, ◌^◌, ◌≤◌, ◌<◌, length, drop}
+use Rattle.std.specs.Prelude.{◌≡◌, Result, Ok, Err, List, ℕ, ◌+◌, ◌^◌, ◌≤◌, ◌<◌, length, drop}
 use Rattle.refusal.specs.Refusal.{accepted}
+use Rattle.refusal.specs.Refused as refused
 use Rattle.tile.specs.declared.Tile.{Tile}
 use Rattle.tile.specs.Slots.{tiles}
 use Rattle.quadtree.specs.Quadtree.{quadtree}
@@ -26,10 +29,32 @@ use Rattle.bed.specs.Places.{pixel_at}
 use Rattle.bed.specs.Bed as bed
 use Rattle.quadtree.specs.Tiling.{Levels}
 use Rattle.scan_gap.specs.Gap.{held, Fits, Low}
+use Rattle.scan_gap.specs.declared.Gap.{Gap}
 use Rattle.scan_stretch.specs.Stretch.{Blank}
 use Rattle.scan_feed.specs.declared.Place.{Place}
-use Rattle.scan_feed.specs.declared.AfterPixel.{AfterPixel}
-use Rattle.scan_feed.specs.declared.AfterPixels.{AfterPixels}
+use Rattle.scan_feed.specs.declared.Stopped.{Stopped}
+use Rattle.scan_feed.specs.declared.Progress.{Progress}
+use Rattle.scan_feed.specs.declared.Halted.{Halted}
+
+pub record AfterPixel : Type 0 where
+  pub number : ℕ
+  pub front : ℕ
+  pub back : ℕ
+
+abbrev pub left : Result Gap Stopped → AfterPixel
+left (Ok g) = record { number = accepted; front = g.front; back = g.back }
+left (Err e) = record { number = refused.number e.refusal; front = e.gap.front; back = e.gap.back }
+
+pub record AfterPixels : Type 0 where
+  pub number : ℕ
+  pub taken : ℕ
+  pub pixels : ℕ
+  pub front : ℕ
+  pub back : ℕ
+
+abbrev pub reached : Result Progress Halted → AfterPixels
+reached (Ok p) = record { number = accepted; taken = p.taken; pixels = p.pixels; front = p.gap.front; back = p.gap.back }
+reached (Err e) = record { number = refused.number e.refusal; taken = e.at.taken; pixels = e.at.pixels; front = e.at.gap.front; back = e.at.gap.back }
 
 pub record AtPlace (k : Kind) (n s : ℕ) (p : Place) : Type 0 where
   pub z : p.z ≡ pixel_at k n s

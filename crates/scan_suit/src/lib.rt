@@ -6,17 +6,17 @@ ghost use Rattle.std.specs.Prelude.{◌≡◌, ◌+◌, ◌/◌, ◌^◌, ◌<�
 ghost use Rattle.tile.specs.Tile.{highest_order};
 ghost use Rattle.scan_suit.specs.Suits.{BandTaken, StretchTaken};
 
-use scan_block::RowFeed;
+use scan_block::Feed;
 
 // The size of the largest band that starts at the place `pixels` and can come to no refusal with so many free slots; 0
 // if there is none. Twice as many rows are tried while that many suit, so that a call weighs each account once.
-pub fn band_size(feed: RowFeed, pixels: u32, free: usize) -> u32
+pub fn band_size(feed: Feed, pixels: u32, free: usize) -> u32
     requires { (feed.order ≤ highest_order) × (feed.start ≤ pixels) × (pixels ≤ 4 ^ feed.order)
         × (pixels ≤ feed.start + length feed.accounts.now) }
     ensures { 0 < result → BandTaken feed.entry.order feed.entry.start feed.entry.accounts.now pixels free
         (pixels / 2 ^ feed.entry.order) result }
 {
-    let RowFeed {
+    let Feed {
         order,
         start,
         accounts,

@@ -1,13 +1,14 @@
 -- The loop keeps `FedOn` from the start of the feed on: the plain bed's feed goes on from the account number `taken`.
 use Rattle.scan_feed.specs.Feeding.{FedOn}
 use Rattle.scan_feed.proofs.FeedTurns.{up_to}
-use mathlib.Core.Path.{◌≡◌}
-use Prim.Native.Nat.{◌-◌}
-use lib.ListN.{length}
+use Rattle.std.proofs.Common.{◌≡◌, ◌-◌, length}
 use Rattle.scan_feed.proofs.feed_all.Given as goal
 
-abbrev pub invariant-loop-taken : goal.invariant-loop-taken
-invariant-loop-taken l = (length l.slots ≡ length l.initial.slots) × FedOn l.kind l.order l.accounts 0 l.start l.initial.slots l.slots l.initial.front l.initial.back (up_to l.taken l.pixels l.front l.back)
+abbrev pub invariant-loop-at : goal.invariant-loop-at
+invariant-loop-at l = record {
+  long : length l.slots ≡ length l.initial.slots;
+  fed : FedOn l.kind l.feed.order l.accounts 0 l.feed.start l.initial.slots l.slots l.initial.at.gap.front l.initial.at.gap.back (up_to l.at.taken l.at.pixels l.at.gap.front l.at.gap.back);
+}
 
-abbrev pub decreases-loop-taken : goal.decreases-loop-taken
-decreases-loop-taken l = length l.accounts - l.taken
+abbrev pub decreases-loop-at : goal.decreases-loop-at
+decreases-loop-at l = length l.accounts - l.at.taken

@@ -2,73 +2,29 @@
 use Rattle.scan_feed.proofs.FeedLines.{fed_line}
 use Rattle.quadtree.proofs.Alignment.{area_mono}
 use Rattle.tile.specs.Tile.{highest_order}
-use Prim.Native.Nat.{◌^◌, ◌≤◌}
-use native.Mathlib.Omega.{arith}
+use Rattle.std.proofs.Common.{refl, ◌^◌, ◌≤◌, arith}
 use Rattle.scan_feed.proofs.feed_morton.Goals as goal
 
-pub returns-then-count-gt0 : goal.returns-then-count-gt0
-returns-then-count-gt0 c =
-    let stretch-size = c.stretch_size-count in
-    let if1 = c.if-count-gt0 in
-    let put-stretch = c.put_stretch-top in
+pub returns-then-count-gt0-clause-fed_on : goal.returns-then-count-gt0-clause-fed_on
+returns-then-count-gt0-clause-fed_on c =
     let a = c.args in
-    let p = c.requires in record {
-      fed_on = fed_line a.order a.accounts.now a.taken a.pixels a.slots.now a.front a.back stretch-size.result p.fits.0 p.fits.1 if1.true (stretch-size.ensures if1.true) _ put-stretch.result c.short.result c.short.ensures put-stretch.ensures put-stretch.auto.slots;
-      taken_lt_taken = λ q. omega (arith, if1.true);
-    }
+    let p = c.requires in
+    let put = c.put_stretch-moved in
+    let some = c.if-count-gt0.true in
+    rw put.ensures.back (fed_line a.feed.order a.feed.accounts.now a.at.taken a.at.pixels a.slots.now a.at.gap.front a.at.gap.back c.stretch_size-count.result p.fits.0 p.fits.1 some (c.stretch_size-count.ensures some) _ put.result.front _ refl put.ensures.put put.auto.slots)
 
-pub returns : goal.returns
-returns c = c.feed_pixels.ensures
+pub put_stretch-moved-requires-clause-count_bound : goal.put_stretch-moved-requires-clause-count_bound
+put_stretch-moved-requires-clause-count_bound c =
+    let line = c.stretch_size-count.ensures c.if-count-gt0.true in
+    let big : 4 ^ c.args.feed.order ≤ 4 ^ highest_order = area_mono c.requires.order_le_highest_order.0 in
+    (omega (arith, line.places), line.aligned, line.quads)
 
-pub overflow_sub-back : goal.overflow_sub-back
-overflow_sub-back c = omega (arith, c.requires.fits.0)
-
-pub stretch_size-count-requires : goal.stretch_size-count-requires
-stretch_size-count-requires c = (c.requires.order_le_highest_order.0, c.requires.order_le_highest_order.1, omega (arith, c.requires.taken_in_bounds))
-
-pub put_stretch-top-requires : goal.put_stretch-top-requires
-put_stretch-top-requires c =
-    let args = c.args in
-    let pre = c.requires in
-    let stretch-size = c.stretch_size-count in
-    let line = stretch-size.ensures c.if-count-gt0.true in
-    let big : 4 ^ args.order ≤ 4 ^ highest_order = area_mono pre.order_le_highest_order.0 in
-    record {
-      fits = pre.fits.0;
-      count_bound = (omega (arith, line.places), line.aligned, line.quads);
-      given = line.given;
-    }
-
-pub overflow_add-result : goal.overflow_add-result
-overflow_add-result c =
-    let stretch-size = c.stretch_size-count in
-    let if1 = c.if-count-gt0 in
-    omega (arith, (stretch-size.ensures if1.true).given.there)
-
-pub short-requires : goal.short-requires
-short-requires c =
-    let args = c.args in
-    let pre = c.requires in
-    let stretch-size = c.stretch_size-count in
-    let if1 = c.if-count-gt0 in
-    let big : 4 ^ args.order ≤ 4 ^ highest_order = area_mono pre.order_le_highest_order.0 in omega (arith, (stretch-size.ensures if1.true).places)
+pub overflow_cast-result : goal.overflow_cast-result
+overflow_cast-result c =
+    let big : 4 ^ c.args.feed.order ≤ 4 ^ highest_order = area_mono c.requires.order_le_highest_order.0 in
+    omega (arith, (c.stretch_size-count.ensures c.if-count-gt0.true).places)
 
 pub overflow_add-result-then-count-gt0 : goal.overflow_add-result-then-count-gt0
 overflow_add-result-then-count-gt0 c =
-    let args = c.args in
-    let pre = c.requires in
-    let stretch-size = c.stretch_size-count in
-    let if1 = c.if-count-gt0 in
-    let big : 4 ^ args.order ≤ 4 ^ highest_order = area_mono pre.order_le_highest_order.0 in omega (arith, c.short.ensures, (stretch-size.ensures if1.true).places)
-
-pub piece_end-upto-requires : goal.piece_end-upto-requires
-piece_end-upto-requires c = (omega arith, c.requires.taken_in_bounds)
-
-pub feed_pixels-requires : goal.feed_pixels-requires
-feed_pixels-requires c =
-    let pre = c.requires in
-    record {
-      fits = pre.fits;
-      order_le_highest_order = (pre.order_le_highest_order.0, pre.order_le_highest_order.1);
-      taken_lt_upto = (c.piece_end-upto.ensures.0, c.piece_end-upto.ensures.1);
-    }
+    let big : 4 ^ c.args.feed.order ≤ 4 ^ highest_order = area_mono c.requires.order_le_highest_order.0 in
+    omega (arith, (c.stretch_size-count.ensures c.if-count-gt0.true).places)
