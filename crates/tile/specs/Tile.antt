@@ -10,7 +10,6 @@
 --     tile_of w                    the tile of the word w
 -- Not here: which tiles lie in a bed (quadtree, `Quadrant`), which words are refused (list_check, `word_check`).
 use Rattle.std.specs.Prelude.{ℕ, ◌+◌, ◌-◌, ◌*◌, ◌/◌, ◌%◌, ◌^◌}
-
 use Rattle.tile.specs.declared.Tile.{Tile}
 
 abbrev pub tile : ℕ → ℕ → ℕ → Tile
