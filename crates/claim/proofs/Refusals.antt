@@ -14,7 +14,10 @@ use lib.ListN.{length}
 use Rattle.basics.proofs.Tests.{test_leb}
 use Rattle.refusal.specs.Refusal.{accepted, account_too_large, slots_exceeded, block_invalid, unscanned}
 use Rattle.refusal.specs.Checks.{must, or_else, After}
-use Rattle.refusal.proofs.CheckLaws.{must_inv, else_on, else_off, else_inv, else_else, else_must, unless_on, unless_off}
+use Rattle.refusal.specs.declared.Refusal.{Refusal}
+use Rattle.refusal.specs.Refused.{number}
+use Rattle.refusal.proofs.RefusedLaws.{unless_refused}
+use Rattle.refusal.proofs.CheckLaws.{must_inv, else_on, else_off, else_inv, else_else, else_must, unless_on}
 use Rattle.tile.specs.declared.Tile.{Tile}
 use Rattle.tile.specs.Tile.{highest_account}
 use Rattle.tile.specs.Slots.{tiles_in, filled}
@@ -29,7 +32,7 @@ use Rattle.scan_check.specs.Opening.{opening}
 use Rattle.scan_check.specs.Scanned.{block_scanned_check}
 use Rattle.scan_check.proofs.Opening.{opening_opened}
 use Rattle.claim_plan.specs.Plan.{Claimable}
-use Rattle.claim.specs.declared.Claimed.{Claimed}
+use Rattle.claim.specs.declared.ClaimAnswer.{ClaimAnswer}
 use Rattle.claim.specs.Claim.{claim_refusal, claim_of}
 use Rattle.claim.specs.Outcome.{plan_check}
 
@@ -37,11 +40,11 @@ module _ (scan : Scan) (slots : List ℕ) (c k a : ℕ) where
   abbrev ts : List Tile
   ts = quadtree scan.order (claimed (account_at (tiles_in scan.tiles slots)) c k a)
 
-  pub claim_of_refused : (r : ℕ) → (r ≡ accepted → ⊥) → claim_refusal scan slots c k a ≡ r → ◌≡◌ {A = After Claimed} (record { answer = record { number = r; tiles = 0 }; storage = slots }) (claim_of scan slots c k a)
+  pub claim_of_refused : (r : Refusal) → claim_refusal scan slots c k a ≡ number r → ◌≡◌ {A = After ClaimAnswer} (record { answer = record { number = number r; tiles = 0 }; storage = slots }) (claim_of scan slots c k a)
   unfolding claim_of
-  claim_of_refused r ne e = sym (rw e (unless_off r (λ number. record { answer = record { number = number; tiles = 0 }; storage = slots }) (record { answer = record { number = accepted; tiles = length ts }; storage = filled (length slots) ts }) ne))
+  claim_of_refused r e = unless_refused r (λ number. record { answer = record { number = number; tiles = 0 }; storage = slots }) (record { answer = record { number = accepted; tiles = length ts }; storage = filled (length slots) ts }) (sym e)
 
-  pub claim_of_done : claim_refusal scan slots c k a ≡ accepted → ◌≡◌ {A = After Claimed} (record { answer = record { number = accepted; tiles = length ts }; storage = filled (length slots) ts }) (claim_of scan slots c k a)
+  pub claim_of_done : claim_refusal scan slots c k a ≡ accepted → ◌≡◌ {A = After ClaimAnswer} (record { answer = record { number = accepted; tiles = length ts }; storage = filled (length slots) ts }) (claim_of scan slots c k a)
   unfolding claim_of
   claim_of_done e = sym (unless_on (claim_refusal scan slots c k a) (λ number. record { answer = record { number = number; tiles = 0 }; storage = slots }) (record { answer = record { number = accepted; tiles = length ts }; storage = filled (length slots) ts }) e)
 

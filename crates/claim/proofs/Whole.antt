@@ -1,5 +1,5 @@
 -- A claim as a whole: how it ends by its plan, the stores and what they leave.
---     ends_refused, -fits   what is known of an outcome, by its case
+--     tree_claimable, tree_known   what the checked list is
 --     Bounds ..             the numbers of a plan, which `bounds` gives
 --     known_drawn           what is written fits
 --     known_few             25
@@ -28,36 +28,39 @@ use Rattle.claim_split.proofs.Split.{split_pieces}
 use Rattle.bed.specs.declared.Scan.{Scan}
 use Rattle.bed.specs.Bed.{claimed}
 use Rattle.claim_plan.specs.declared.Planned.{Planned}
-use Rattle.claim_plan.specs.Plan.{inner}
+use Rattle.claim_plan.specs.Plan.{inner, Claimable, Plans}
 use Rattle.claim_plan.proofs.Counts.{changes_pieces, changes_tiles}
 use Rattle.claim_store.specs.Stores.{Drawn, RoomMade}
-use Rattle.claim.specs.declared.Claimed.{Claimed}
+use Rattle.claim.specs.declared.ClaimAnswer.{ClaimAnswer}
 use Rattle.claim.specs.Claim.{claim_refusal, claim_of}
 use Rattle.claim.specs.Preview.{preview_of}
-use Rattle.claim.specs.Outcome.{Known, Ends}
-use Rattle.claim.specs.declared.Outcome.{Outcome}
-use Rattle.claim.specs.declared.Outcome.TheVariants.{Refused, Fits}
+use Rattle.claim.specs.Outcome.{plan_check, Known}
 use Rattle.basics.proofs.MapLaws.{take_map, drop_map}
-use Rattle.claim.proofs.Refusals.{claim_of_done, refusal_passed}
-use Rattle.claim.proofs.PreviewLaws.{claim_answer}
+use Rattle.claim.proofs.Refusals.{checked_claimable, claim_of_done, refusal_passed}
+use Rattle.claim.proofs.PreviewLaws.{claim_preview}
 
-module _ (scan : Scan) (s : List ℕ) (c k a : ℕ) {x : Outcome} where
-  pub ends_refused : {number : ℕ} → x ≡ Refused number → Ends scan s c k a x → (number ≡ accepted → ⊥) × (claim_refusal scan s c k a ≡ number)
-  ends_refused e h = rw e at h
+-- the checked list q: what passes is claimable, and its plan is known
+module _ (scan : Scan) (s : List ℕ) (c k a : ℕ) {o : ℕ} {ws : List ℕ} (e : accepted ≡ plan_check scan s c k a) (q : (o ≡ scan.order) × (ws ≡ take scan.tiles s)) where
+  tree_tiles : map tile_of ws ≡ tiles_in scan.tiles s
+  unfolding tiles_in
+  tree_tiles = ap (λ (x : List ℕ). map tile_of x) q.1
 
-  pub ends_fits : {p : Planned} → x ≡ Fits p → Ends scan s c k a x → Known scan s c k a p × (p.tiles ≤ length s)
-  ends_fits e h = rw e at h
+  pub tree_claimable : Claimable o (map tile_of ws) c k a
+  tree_claimable = rw (q.0, tree_tiles) (checked_claimable scan s c k a (sym e)).1
+
+  pub tree_known : {p : Planned} → Plans o (map tile_of ws) c k a p → Known scan s c k a p
+  tree_known h = let l = checked_claimable scan s c k a (sym e) in record { passed = sym e; room = l.0; claimable = l.1; planned = rw (q.0, tree_tiles) at h }
 
 pub record Bounds (length t a : ℕ) (p : Planned) : Type 0 where
   pub order : p.change.lo ≤ p.change.hi
   pub within : p.change.hi ≤ t
   pub room : t ≤ length
-  pub pieces : p.pieces ≡ 3 * (p.change.top - p.change.size) + inner a
+  pub pieces : p.pieces ≡ 3 * (p.change.whole.size - p.change.block.size) + inner a
   pub total : p.tiles ≡ p.change.lo + p.pieces + (t - p.change.hi)
 
 -- the tiles that come
 abbrev comes : ℕ → Planned → List Tile
-comes a p = pieces p.change.size p.change.corner a p.change.owner (p.change.top - p.change.size) p.change.first
+comes a p = pieces p.change.block.size p.change.block.corner a p.change.owner (p.change.whole.size - p.change.block.size) p.change.whole.corner
 
 module _ {scan : Scan} {s : List ℕ} {c k a : ℕ} {p : Planned} (w : Known scan s c k a p) where
   abbrev n : ℕ
@@ -72,7 +75,7 @@ module _ {scan : Scan} {s : List ℕ} {c k a : ℕ} {p : Planned} (w : Known sca
   count : length (tiles_in t s) ≡ t
   count = length_tiles_in t s w.room
 
-  few : p.pieces ≡ 3 * (p.change.top - p.change.size) + inner a
+  few : p.pieces ≡ 3 * (p.change.whole.size - p.change.block.size) + inner a
   few = w.planned.pieces ∙ sym (changes_pieces w.planned.change)
 
   pub bounds : Bounds (length s) t a p
@@ -84,7 +87,7 @@ module _ {scan : Scan} {s : List ℕ} {c k a : ℕ} {p : Planned} (w : Known sca
     total = w.planned.tiles ∙ sym (changes_tiles w.planned.change t p.pieces count few);
   }
 
-  pub known_drawn : (len : ℕ) → len ≡ length s → p.tiles ≤ length s → Drawn len p.change.lo p.change.size p.change.corner a p.change.owner p.change.top p.change.first
+  pub known_drawn : (len : ℕ) → len ≡ length s → p.tiles ≤ length s → Drawn len p.change.lo p.change.block.size p.change.block.corner a p.change.owner p.change.whole.size p.change.whole.corner
   known_drawn len e h =
       let b : 4 ^ n ≤ 4 ^ highest_order = area_mono w.claimable.order in
       let d = w.planned.change in
@@ -92,7 +95,7 @@ module _ {scan : Scan} {s : List ℕ} {c k a : ℕ} {p : Planned} (w : Known sca
         sizes = d.split.sizes;
         small = omega (arith, d.fits, w.claimable.order);
         from = d.split.from;
-        upto = omega (arith, d.split.upto, area_pos p.change.size);
+        upto = omega (arith, d.split.upto, area_pos p.change.block.size);
         room = omega (arith, d.room);
         owner = d.owner;
         account = w.claimable.account;
@@ -105,14 +108,14 @@ module _ {scan : Scan} {s : List ℕ} {c k a : ℕ} {p : Planned} (w : Known sca
   pub known_fits : p.tiles ≤ length s → claim_refusal scan s c k a ≡ accepted
   known_fits h = refusal_passed scan s c k a w.passed ∙ must_on slots_exceeded accepted (test_leb (length ts) (length s)) (omega (arith, w.planned.tiles))
 
-  pub known_preview : p.tiles ≤ length s → ◌≡◌ {A = Claimed} (record { number = accepted; tiles = p.tiles }) (preview_of scan s c k a)
-  known_preview h = rw w.planned.tiles (ap (λ (x : After Claimed). x.answer) (claim_of_done scan s c k a (known_fits h)) ∙ claim_answer scan s c k a)
+  pub known_preview : p.tiles ≤ length s → ◌≡◌ {A = ClaimAnswer} (record { number = accepted; tiles = p.tiles }) (preview_of scan s c k a)
+  known_preview h = rw w.planned.tiles (ap (λ (x : After ClaimAnswer). x.answer) (claim_of_done scan s c k a (known_fits h)) ∙ claim_preview scan s c k a)
 
-  levels : p.change.top ≡ p.change.size + (p.change.top - p.change.size)
+  levels : p.change.whole.size ≡ p.change.block.size + (p.change.whole.size - p.change.block.size)
   levels = omega (arith, w.planned.change.split.sizes)
 
-  come : blocks (claimed (account_at (tiles_in t s)) c k a) p.change.top p.change.first ≡ comes a p
-  come = split_pieces (p.change.top - p.change.size) p.change.top p.change.first levels w.planned.change.split
+  come : blocks (claimed (account_at (tiles_in t s)) c k a) p.change.whole.size p.change.whole.corner ≡ comes a p
+  come = split_pieces (p.change.whole.size - p.change.block.size) p.change.whole.size p.change.whole.corner levels w.planned.change.split
 
   words_are : map word_of ts ≡ take p.change.lo s ++ (map word_of (comes a p) ++ slice p.change.hi t s)
   unfolding tiles_in
@@ -138,6 +141,6 @@ module _ {scan : Scan} {s : List ℕ} {c k a : ℕ} {p : Planned} (w : Known sca
         ∙ sym words_are
 
     pub known_done : (r : List ℕ) → p.tiles ≤ length s → length y ≡ length s → r ≡ take p.tiles y ++ replicate (length y - p.tiles) 0 →
-        ◌≡◌ {A = After Claimed} (record { answer = record { number = accepted; tiles = p.tiles }; storage = r }) (claim_of scan s c k a)
+        ◌≡◌ {A = After ClaimAnswer} (record { answer = record { number = accepted; tiles = p.tiles }; storage = r }) (claim_of scan s c k a)
     unfolding filled
     known_done r h ly er = rw (er, front, ly, w.planned.tiles) (claim_of_done scan s c k a (known_fits h))

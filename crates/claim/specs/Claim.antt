@@ -13,12 +13,12 @@ use Rattle.bed.specs.declared.Scan.{Scan}
 use Rattle.bed.specs.Bed.{claimed, claim_check}
 use Rattle.bed.specs.Shown.{shown_bed}
 use Rattle.scan_check.specs.Opening.{opening}
-use Rattle.claim.specs.declared.Claimed.{Claimed}
+use Rattle.claim.specs.declared.ClaimAnswer.{ClaimAnswer}
 
 unfoldable pub claim_refusal : Scan → List ℕ → ℕ → ℕ → ℕ → ℕ
 claim_refusal scan slots c k a = or_else (opening scan slots) (claim_check (length slots) (shown_bed scan slots) c k a)
 
-unfoldable pub claim_of : Scan → List ℕ → ℕ → ℕ → ℕ → After Claimed
+unfoldable pub claim_of : Scan → List ℕ → ℕ → ℕ → ℕ → After ClaimAnswer
 claim_of scan slots c k a =
     let ts : List Tile = quadtree scan.order (claimed (shown_bed scan slots).account c k a) in
     unless (claim_refusal scan slots c k a)

@@ -12,10 +12,10 @@ use Rattle.quadtree.specs.Quadtree.{quadtree}
 use Rattle.bed.specs.declared.Scan.{Scan}
 use Rattle.bed.specs.Bed.{claimed}
 use Rattle.bed.specs.Shown.{shown_bed}
-use Rattle.claim.specs.declared.Claimed.{Claimed}
+use Rattle.claim.specs.declared.ClaimAnswer.{ClaimAnswer}
 use Rattle.claim.specs.Claim.{claim_refusal, claim_of}
 
-unfoldable pub preview_of : Scan → List ℕ → ℕ → ℕ → ℕ → Claimed
+unfoldable pub preview_of : Scan → List ℕ → ℕ → ℕ → ℕ → ClaimAnswer
 preview_of scan slots c k a = unless (claim_refusal scan slots c k a)
     (λ number. record { number = number; tiles = 0 })
     (record {

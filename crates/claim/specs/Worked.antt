@@ -7,7 +7,7 @@ use Rattle.bed.specs.declared.Kind.TheVariants.{Rows, Morton}
 use Rattle.bed.specs.declared.Scan.{Scan}
 use Rattle.bed.specs.Places.{scan_of}
 use Rattle.bed.specs.Worked.{words_m, slots_m}
-use Rattle.claim.specs.declared.Claimed.{Claimed}
+use Rattle.claim.specs.declared.ClaimAnswer.{ClaimAnswer}
 use Rattle.claim.specs.Claim.{claim_of}
 use Rattle.claim.specs.Preview.{preview_of, Copies}
 
@@ -29,7 +29,7 @@ scan_m = scan_of Rows 2 16 4
 abbrev pub halfway : Scan
 halfway = scan_of Rows 2 8 2
 
-abbrev pub answered : ℕ → ℕ → Claimed
+abbrev pub answered : ℕ → ℕ → ClaimAnswer
 answered number count = record { number = number; tiles = count }
 
 pub record PreviewLines : Type 0 where

@@ -3,104 +3,93 @@
 // and a few words.
 #![tactic(auto)]
 
-ghost use Rattle.std.specs.Prelude.{◌≡◌};
+ghost use Rattle.std.specs.Prelude.{◌≡◌, take, IfOk};
+ghost use Rattle.refusal.specs.Refused.{said};
 ghost use Rattle.refusal.specs.Checks.{Gives};
+ghost use Rattle.claim.specs.Answers.{claim_answer};
 ghost use Rattle.claim.specs.Claim.{claim_of};
 ghost use Rattle.claim.specs.Preview.{preview_of};
 ghost use Rattle.claim.specs.Outcome.{plan_check, Ends};
 
 use bed::Scan;
 use claim_plan::Planned;
+use list_check::Quadtree;
+use refusal::Refusal;
+use tile::{Block, Tile};
 
-// The answer of a claim, and of its preview: the tile count of the list that the claim leaves.
+// The answer of a claim, and of its preview, in C: the tile count of the list that the claim leaves.
 #[repr(C)]
-#[derive(Clone, Copy)]
-pub struct Claimed {
+#[derive(Clone, Copy, Debug, PartialEq, Eq)]
+pub struct ClaimAnswer {
     pub number: u32,
     pub tiles: usize,
 }
 
-// How a claim ends: by the first check broken, or with a plan whose list has slots enough.
-#[derive(Clone, Copy)]
-enum Outcome {
-    Refused(u32),
-    Fits(Planned),
-}
+impl From<Result<usize, Refusal>> for ClaimAnswer {
+    ghost from_gives = { λ r e. e ≡ claim_answer r };
 
-// The checks ahead of the plan, in their order: the opening checks, 32, 52, 24.
-fn plan_check(scan: Scan, slots: &[u32], corner: u32, size: u32, account: u8) -> u32
-    ensures { result ≡ plan_check scan slots.now corner size account }
-{
-    let opened = scan_check::open_check(scan, slots);
-    if opened != refusal::ACCEPTED {
-        return opened;
-    }
-    let block = checks::block(scan.order, corner, size);
-    if block != refusal::ACCEPTED {
-        return block;
-    }
-    let scanned = scan_check::block_scanned(scan, corner, size);
-    if scanned != refusal::ACCEPTED {
-        return scanned;
-    }
-    checks::given(account)
-}
-
-// How the claim of a block for an account ends: `plan_check`, then the plan, and 25 by its count. Nothing is stored,
-// and nothing else counts the tiles.
-fn foresee(scan: Scan, slots: &[u32], corner: u32, size: u32, account: u8) -> Outcome
-    ensures { Ends scan slots.now corner size account result }
-{
-    let number = plan_check(scan, slots, corner, size, account);
-    if number != refusal::ACCEPTED {
-        return Outcome::Refused(number);
-    }
-    let planned = claim_plan::plan(scan.order, scan.tiles, slots, corner, size, account);
-    let after = planned.tiles;
-    if slots.len() < after {
-        return Outcome::Refused(refusal::SLOTS_EXCEEDED);
-    }
-    Outcome::Fits(planned)
-}
-
-// A refusal's answer, which has no count.
-fn refused(number: u32) -> Claimed
-    ensures { result ≡ record { number = number; tiles = 0 } }
-{
-    Claimed { number, tiles: 0 }
-}
-
-// The offered call: what the claim of a block would answer, done on a copy of the list with as many slots. The slots
-// are only read.
-pub fn preview(scan: Scan, slots: &[u32], corner: u32, size: u32, account: u8) -> Claimed
-    ensures { result ≡ preview_of scan slots.now corner size account }
-{
-    match foresee(scan, slots, corner, size, account) {
-        Outcome::Refused(number) => refused(number),
-        Outcome::Fits(planned) => Claimed {
-            number: refusal::ACCEPTED,
-            tiles: planned.tiles,
-        },
-    }
-}
-
-// The offered call: claims a block of a bed for an account, or releases it for account 0. The list becomes the linear
-// quadtree of the result, and the slots behind it hold 0. A refused claim changes nothing.
-pub fn claim(scan: Scan, slots: &mut [u32], corner: u32, size: u32, account: u8) -> Claimed
-    ensures { Gives result slots.new (claim_of scan slots.old corner size account) }
-{
-    match foresee(scan, slots, corner, size, account) {
-        Outcome::Refused(number) => refused(number),
-        Outcome::Fits(planned) => {
-            let change = planned.change;
-            let after = planned.tiles;
-            claim_store::make_room(slots, change.lo, change.hi, scan.tiles, planned.pieces);
-            claim_store::write_pieces(slots, change, planned.pieces, account);
-            list_words::clear_from(slots, after);
-            Claimed {
-                number: refusal::ACCEPTED,
-                tiles: after,
-            }
+    fn from(answer: Result<usize, Refusal>) -> ClaimAnswer {
+        match answer {
+            Ok(tiles) => ClaimAnswer { number: 0, tiles },
+            Err(refusal) => ClaimAnswer {
+                number: u32::from(refusal),
+                tiles: 0,
+            },
         }
     }
+}
+
+// The checks ahead of the plan, in their order: the opening checks, which answer the list, 32, 52, 24.
+fn plan_check(scan: Scan, slots: &[u32], tile: Tile) -> Result<Quadtree<'_>, Refusal>
+    ensures number { said result ≡ plan_check scan slots.now tile.corner tile.size tile.account }
+    ensures tree { IfOk result (λ q. (q.order ≡ scan.order) × (q.words.now ≡ take scan.tiles slots.now)) }
+{
+    let Tile {
+        corner,
+        size,
+        account,
+    } = tile;
+    let block = Block { corner, size };
+    let tree = scan_check::open_check(scan, slots)?;
+    checks::block(scan.order, block)?;
+    scan_check::block_scanned(scan, block)?;
+    checks::given(account)?;
+    Ok(tree)
+}
+
+// How the claim of a tile's block for its account ends: `plan_check`, then the plan, and 25 by its count. Nothing is
+// stored, and nothing else counts the tiles.
+fn foresee(scan: Scan, slots: &[u32], tile: Tile) -> Result<Planned, Refusal>
+    ensures { Ends scan slots.now tile.corner tile.size tile.account result }
+{
+    let tree = plan_check(scan, slots, tile)?;
+    let planned = claim_plan::plan(tree, tile);
+    let after = planned.tiles;
+    if slots.len() < after {
+        return Err(Refusal::SlotsExceeded);
+    }
+    Ok(planned)
+}
+
+// The offered call: what the claim of a tile's block for its account would answer, done on a copy of the list with as
+// many slots. The slots are only read.
+pub fn preview(scan: Scan, slots: &[u32], tile: Tile) -> Result<usize, Refusal>
+    ensures { claim_answer result ≡ preview_of scan slots.now tile.corner tile.size tile.account }
+{
+    let planned = foresee(scan, slots, tile)?;
+    Ok(planned.tiles)
+}
+
+// The offered call: claims a tile's block for its account, or releases it for account 0. The list becomes the linear
+// quadtree of the result, and the slots behind it hold 0. A refused claim changes nothing.
+pub fn claim(scan: Scan, slots: &mut [u32], tile: Tile) -> Result<usize, Refusal>
+    ensures { Gives (claim_answer result) slots.new (claim_of scan slots.old tile.corner tile.size tile.account) }
+{
+    let planned = foresee(scan, slots, tile)?;
+    let change = planned.change;
+    let after = planned.tiles;
+    claim_store::make_room(slots, change.lo, change.hi, scan.tiles, planned.pieces);
+    claim_store::write_pieces(slots, change, planned.pieces, tile.account);
+    list_words::clear_from(slots, after);
+    Ok(after)
 }

@@ -1,48 +1,40 @@
 -- The opening checks, which bound the order, then 32, 52, 24.
-use mathlib.Core.Path.{◌∙◌, sym}
-use Rattle.refusal.proofs.CheckLaws.{else_on, else_off}
+use mathlib.Core.Path.{sym}
+use Rattle.std.proofs.Common.{rules}
+use Rattle.refusal.proofs.RefusedLaws.{else_passed, else_refused}
 use Rattle.checks.proofs.AskedLaws.{block_passed}
 use Rattle.scan_check.proofs.Opening.{opening_opened}
 use Rattle.claim.specs.Outcome.{plan_check}
 use Rattle.claim.proofs.plan_check.Goals as goal
 
-pub returns-then-opened-ne-ACCEPTED : goal.returns-then-opened-ne-ACCEPTED
+pub returns-in_err-tree-clause-number : goal.returns-in_err-tree-clause-number
 unfolding plan_check
-returns-then-opened-ne-ACCEPTED c = rw (sym c.open_check-opened.ensures) (sym (else_off _ _ c.if-opened-ne-ACCEPTED.true))
+returns-in_err-tree-clause-number c = search (rules, else_refused)
 
-pub block-block-requires : goal.block-block-requires
-block-block-requires c =
+pub returns-in_err-block-clause-number : goal.returns-in_err-block-clause-number
+unfolding plan_check
+returns-in_err-block-clause-number c = rw (else_passed _ c.in_ok-tree.ensures.number) (search (rules, else_refused))
+
+pub returns-in_err-block_scanned-clause-number : goal.returns-in_err-block_scanned-clause-number
+unfolding plan_check
+returns-in_err-block_scanned-clause-number c =
+    rw (else_passed _ c.in_ok-tree.ensures.number, else_passed _ c.in_ok-block.ensures) (search (rules, else_refused))
+
+pub returns-in_err-given-clause-number : goal.returns-in_err-given-clause-number
+unfolding plan_check
+returns-in_err-given-clause-number c =
+    rw (else_passed _ c.in_ok-tree.ensures.number, else_passed _ c.in_ok-block.ensures, else_passed _ c.in_ok-block_scanned.ensures) (search rules)
+
+pub returns-clause-number : goal.returns-clause-number
+unfolding plan_check
+returns-clause-number c =
+    rw (else_passed _ c.in_ok-tree.ensures.number, else_passed _ c.in_ok-block.ensures, else_passed _ c.in_ok-block_scanned.ensures) c.in_ok-given.ensures
+
+pub block-requires : goal.block-requires
+block-requires c = (opening_opened c.args.scan c.args.slots.now (sym c.in_ok-tree.ensures.number)).order
+
+pub block_scanned-requires : goal.block_scanned-requires
+block_scanned-requires c =
     let a = c.args in
-    (opening_opened a.scan a.slots.now (sym c.open_check-opened.ensures ∙ c.if-opened-ne-ACCEPTED.false)).order
-
-pub returns-then-block-ne-ACCEPTED : goal.returns-then-block-ne-ACCEPTED
-unfolding plan_check
-returns-then-block-ne-ACCEPTED c =
-    let check = c.open_check-opened in
-    rw (else_on _ _ (sym check.ensures ∙ c.if-opened-ne-ACCEPTED.false), sym c.block-block.ensures) (sym (else_off _ _ c.if-block-ne-ACCEPTED.true))
-
-pub block_scanned-scanned-requires : goal.block_scanned-scanned-requires
-block_scanned-scanned-requires c =
-    let a = c.args in
-    let p = block_passed a.scan.order a.corner a.size (sym c.block-block.ensures ∙ c.if-block-ne-ACCEPTED.false) in
-    ((opening_opened a.scan a.slots.now (sym c.open_check-opened.ensures ∙ c.if-opened-ne-ACCEPTED.false)).order, p.0, p.1.0, p.1.1)
-
-pub returns-then-scanned-ne-ACCEPTED : goal.returns-then-scanned-ne-ACCEPTED
-unfolding plan_check
-returns-then-scanned-ne-ACCEPTED c =
-    let check = c.open_check-opened in
-    let block = c.block-block in
-    rw (
-      else_on _ _ (sym check.ensures ∙ c.if-opened-ne-ACCEPTED.false),
-      else_on _ _ (sym block.ensures ∙ c.if-block-ne-ACCEPTED.false),
-      sym c.block_scanned-scanned.ensures,
-    ) (sym (else_off _ _ c.if-scanned-ne-ACCEPTED.true))
-
-pub returns : goal.returns
-unfolding plan_check
-returns c =
-    let check = c.open_check-opened in
-    let block = c.block-block in
-    let scanned = c.block_scanned-scanned in
-    c.given.ensures ∙ sym (else_on _ _ (sym check.ensures ∙ c.if-opened-ne-ACCEPTED.false) ∙
-    else_on _ _ (sym block.ensures ∙ c.if-block-ne-ACCEPTED.false) ∙ else_on _ _ (sym scanned.ensures ∙ c.if-scanned-ne-ACCEPTED.false))
+    let p = block_passed a.scan.order a.tile.corner a.tile.size (sym c.in_ok-block.ensures) in
+    ((opening_opened a.scan a.slots.now (sym c.in_ok-tree.ensures.number)).order, p.0, p.1.0, p.1.1)

@@ -1,23 +1,21 @@
 -- The outcome's answer.
 use mathlib.Core.Path.{◌∙◌, ap}
+use Rattle.std.proofs.lemmas.Result.{err_from_is_err_and}
 use Rattle.refusal.specs.Checks.{After}
-use Rattle.claim.specs.declared.Claimed.{Claimed}
+use Rattle.claim.specs.declared.ClaimAnswer.{ClaimAnswer}
 use Rattle.claim.proofs.Refusals.{claim_of_refused}
-use Rattle.claim.proofs.PreviewLaws.{claim_answer}
-use Rattle.claim.proofs.Whole.{ends_refused, ends_fits, known_preview}
+use Rattle.claim.proofs.PreviewLaws.{claim_preview}
+use Rattle.claim.proofs.Whole.{known_preview}
 use Rattle.claim.proofs.preview.Goals as goal
 
-pub returns-in-Refused : goal.returns-in-Refused
-returns-in-Refused c =
+pub returns-in_err-planned : goal.returns-in_err-planned
+returns-in_err-planned c =
     let a = c.args in
-    let foresee = c.foresee in
-    let ends = ends_refused a.scan a.slots.now a.corner a.size a.account c.in-Refused.is foresee.ensures in
-    let given = claim_of_refused a.scan a.slots.now a.corner a.size a.account _ ends.0 ends.1 in
-    c.refused.ensures ∙ (ap (λ (x : After Claimed). x.answer) given ∙ claim_answer a.scan a.slots.now a.corner a.size a.account)
+    let p = err_from_is_err_and c.from_residual.result c.from_residual.ensures.1 in
+    rw (p.1, p.2) (
+    ap (λ (x : After ClaimAnswer). x.answer) (claim_of_refused a.scan a.slots.now a.tile.corner a.tile.size a.tile.account _ c.in_err-planned.ensures)
+    ∙ claim_preview a.scan a.slots.now a.tile.corner a.tile.size a.tile.account
+    )
 
-pub returns-in-Fits : goal.returns-in-Fits
-returns-in-Fits c =
-    let a = c.args in
-    let foresee = c.foresee in
-    let ends = ends_fits a.scan a.slots.now a.corner a.size a.account c.in-Fits.is foresee.ensures in
-    known_preview ends.0 ends.1
+pub returns : goal.returns
+returns c = let f = c.in_ok-planned.ensures in known_preview f.0 f.1
