@@ -24,16 +24,13 @@ use Rattle.bed.specs.Shown.{shown_bed}
 use Rattle.bed.proofs.BedLaws.{Room, feed_pixels_room}
 use Rattle.scan_gap.specs.Gap.{held}
 use Rattle.scan_gap.proofs.Parts.{held_length}
-use Rattle.scan_feed.specs.Feeding.{FedTo}
-use Rattle.scan_feed.specs.declared.AfterPixels.{AfterPixels}
-use Rattle.scan.specs.FreshScan.{fresh_of}
+use Rattle.scan_feed.specs.Feeding.{AfterPixels, FedTo}
+use Rattle.scan.specs.FreshScan.{Fresh, fresh_of}
 use Rattle.scan_check.specs.Opening.{opening}
-use Rattle.scan.specs.Feed.{fed_to, feed_of}
-use Rattle.scan.specs.declared.Fresh.{Fresh}
-use Rattle.scan.specs.declared.Fed.{Fed}
+use Rattle.scan.specs.Feed.{Fed, fed_to, feed_of}
 
 module _ (c : Scan) (slots bytes : List ℕ) where
-  abbrev plain : bed.BedFed
+  abbrev pub plain : bed.BedFed
   plain = bed.feed_pixels (length slots) 0 (shown_bed c slots) bytes
 
   pub feed_refused : (r : ℕ) → r ≡ opening c slots → (r ≡ accepted → ⊥) → ◌≡◌ {A = After Fed} (record { answer = record { number = r; taken = 0; scan = c }; storage = slots }) (feed_of c slots bytes)

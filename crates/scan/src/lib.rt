@@ -2,68 +2,62 @@
 #![tactic(auto)]
 
 ghost use Rattle.refusal.specs.Checks.{Gives};
-ghost use Rattle.scan.specs.FreshScan.{fresh_of};
-ghost use Rattle.scan.specs.Feed.{feed_of};
+ghost use Rattle.scan.specs.FreshScan.{fresh_answer, fresh_of};
+ghost use Rattle.scan.specs.Feed.{fed_answer, feed_of};
 
-// A fresh scan's answer: the record of the kind asked, with all its numbers 0 where it is refused.
-#[derive(Clone, Copy)]
-pub struct Fresh {
-    pub number: u32,
-    pub scan: bed::Scan,
-}
+use bed::{Kind, Scan};
+use refusal::{Checked, Refusal};
+use scan_feed::{Halted, Progress};
 
-// A feed's answer: the count taken and the new record.
-#[derive(Clone, Copy)]
+// A feed's answer: whether an account or an opening check was refused, the count taken, which counts even where one
+// was, and the new record.
+#[derive(Clone, Copy, Debug, PartialEq, Eq)]
 pub struct Fed {
-    pub number: u32,
+    pub end: Checked,
     pub taken: usize,
-    pub scan: bed::Scan,
+    pub scan: Scan,
 }
 
 // The offered call: a fresh scan of a kind and an order. Refused, 1, it changes no slot; accepted it sets all of them
 // to 0.
-pub fn fresh_scan(kind: bed::Kind, order: u32, slots: &mut [u32]) -> Fresh
-    ensures { Gives result slots.new (fresh_of kind order slots.old) }
+pub fn fresh_scan(kind: Kind, order: u32, slots: &mut [u32]) -> Result<Scan, Refusal>
+    ensures { Gives (fresh_answer kind result) slots.new (fresh_of kind order slots.old) }
 {
-    if bed::Scan::HIGHEST_ORDER < order {
-        return Fresh {
-            number: refusal::ORDER_TOO_LARGE,
-            scan: bed::Scan::fresh(kind, 0),
-        };
+    if Scan::HIGHEST_ORDER < order {
+        return Err(Refusal::OrderTooLarge);
     }
     list_words::clear(slots);
-    Fresh {
-        number: refusal::ACCEPTED,
-        scan: bed::Scan::fresh(kind, order),
-    }
+    Ok(Scan::fresh(kind, order))
 }
 
 // The offered call: feeds accounts to a scan. Refused by an opening check it changes nothing; past them it takes the
 // accounts up to the first that is refused, 23, 24 or 25, and leaves the list of what it took, with the other slots 0.
-pub fn feed(scan: bed::Scan, slots: &mut [u32], accounts: &[u8]) -> Fed
-    ensures { Gives result slots.new (feed_of scan slots.old accounts.now) }
+pub fn feed(scan: Scan, slots: &mut [u32], accounts: &[u8]) -> Fed
+    ensures { Gives (fed_answer result) slots.new (feed_of scan slots.old accounts.now) }
 {
-    let number = scan_check::open_check(scan, slots);
-    if number != refusal::ACCEPTED {
+    if let Err(refusal) = scan_check::open_check(scan, slots) {
         return Fed {
-            number,
+            end: Err(refusal),
             taken: 0,
             scan,
         };
     }
-    let fed = scan_feed::feed_all(scan, slots, accounts);
-    let front = fed.front;
-    let back = fed.back;
-    scan_gap::close(slots, front, back);
+    let (end, at) = match scan_feed::feed_all(scan, slots, accounts) {
+        Ok(at) => (Ok(()), at),
+        Err(Halted { refusal, at }) => (Err(refusal), at),
+    };
+    let Progress { taken, pixels, gap } = at;
+    gap.close(slots);
+    let tiles = gap.front + (slots.len() - gap.back);
     let kind = scan.kind;
     Fed {
-        number: fed.number,
-        taken: fed.taken,
-        scan: bed::Scan {
+        end,
+        taken,
+        scan: Scan {
             kind,
             order: scan.order,
-            pixels: fed.pixels,
-            tiles: front + (slots.len() - back),
+            pixels,
+            tiles,
         },
     }
 }
