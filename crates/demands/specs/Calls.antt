@@ -18,10 +18,8 @@ use Rattle.bed.specs.declared.Scan.{Scan}
 use Rattle.bed.specs.Places.{scan_of}
 use Rattle.bed.specs.Bed as bed
 use Rattle.bed.specs.Bed.{Bed, bed_of, fresh_bed, feed_bed, claimed, claim_bed_check}
-use Rattle.scan.specs.declared.Fresh.{Fresh}
-use Rattle.scan.specs.declared.Fed.{Fed}
-use Rattle.scan.specs.FreshScan.{fresh_of}
-use Rattle.scan.specs.Feed.{feed_of}
+use Rattle.scan.specs.FreshScan.{Fresh, fresh_of}
+use Rattle.scan.specs.Feed.{Fed, feed_of}
 use Rattle.claim.specs.declared.Claimed.{Claimed}
 use Rattle.claim.specs.Claim.{claim_of}
 use Rattle.mapfile_read.specs.declared.Reading.{Reading}

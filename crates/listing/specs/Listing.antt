@@ -17,9 +17,8 @@ use Rattle.decimal.specs.Lines.{pair_line, triple_line}
 use Rattle.tile.specs.declared.Tile.{Tile}
 use Rattle.tile.specs.Slots.{tiles_in}
 use Rattle.bed.specs.declared.Kind.TheVariants.{Rows}
-use Rattle.scan.specs.declared.Fed.{Fed}
 use Rattle.scan.specs.FreshScan.{fresh_of}
-use Rattle.scan.specs.Feed.{feed_of}
+use Rattle.scan.specs.Feed.{Fed, feed_of}
 use Rattle.listing.specs.declared.Listed.{Listed}
 
 -- "bed ", " tiles ", "stop ", " taken "

@@ -12,9 +12,8 @@ use Rattle.bed.specs.declared.Kind.TheVariants.{Rows}
 use Rattle.bed.specs.Places.{rows, scan_of}
 use Rattle.bed.specs.Worked.{bed_m, rows_m, words_m, slots_m}
 use Rattle.part.specs.Part.{part_of, slice_of}
-use Rattle.scan.specs.declared.Fed.{Fed}
 use Rattle.scan.specs.FreshScan.{fresh_of}
-use Rattle.scan.specs.Feed.{feed_of}
+use Rattle.scan.specs.Feed.{Fed, feed_of}
 use Rattle.claim.specs.Claim.{claim_of}
 
 abbrev pub tiles_m : List Tile
