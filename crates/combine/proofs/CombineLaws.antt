@@ -1,6 +1,7 @@
 -- What the call gives by any rule, by how its checks end.
 --     maps_passed                               two maps that pass their checks
 --     maps_start                                the cursors at the start of such maps
+--     third_whole                               the third map by the words of the checked lists
 --     maps_first, -second, -orders, -accepted   these checks, by how each ends
 --     combine_by_refused, -slots, -done          the call refused by them, refused by 25, and accepted
 use mathlib.Core.Path.{◌≡◌, refl, sym, ◌∙◌}
@@ -14,13 +15,16 @@ use Rattle.refusal.specs.Refusal.{accepted, orders_differ, slots_exceeded}
 use Rattle.refusal.specs.Checks.{Gives}
 use Rattle.refusal.proofs.CheckLaws.{must_on, must_off, must_inv, else_on, else_off, else_inv, unless_on, unless_off}
 use Rattle.tile.specs.Tile.{word_of}
+use Rattle.tile.specs.Slots.{tiles}
+use Rattle.quadtree.specs.Valid.{Valid}
 use Rattle.quadtree.proofs.Alignment.{area_pos}
 use Rattle.list_check.specs.ListCheck.{list_check}
 use Rattle.list_check.proofs.Accepts.{list_check_valid}
+use Rattle.list_check.proofs.TreeLaws.{tiles_whole, tree_tiles}
 use Rattle.list_cut.proofs.Passes.{filled_words}
 use Rattle.combine_walk.specs.Walk.{Both}
 use Rattle.combine_walk.proofs.Cursor.{stands_start}
-use Rattle.combine.specs.Combine.{third_tiles, maps_check, combine_refusal, combine_by}
+use Rattle.combine.specs.Combine.{third_tiles, third_of, maps_check, combine_refusal, combine_by}
 use Rattle.combine.specs.Maps.{Maps}
 
 module _ (n t : ℕ) (s : List ℕ) (m u : ℕ) (w : List ℕ) where
@@ -52,9 +56,15 @@ module _ (n t : ℕ) (s : List ℕ) (m u : ℕ) (w : List ℕ) where
       unfolding maps_check
       maps_accepted h = rw (else_on (list_check n t s) _ g, else_on (list_check m u w) _ k) (sym (must_on orders_differ accepted (test_eqb n m) h))
 
-pub maps_start : {n t : ℕ} {s : List ℕ} {u : ℕ} {w : List ℕ} (end : ℕ) → end ≡ 4 ^ n → Maps n t s u w → (0 < end) × Both end t s u w 0 0 0
-maps_start {n} end e p =
-    (omega (arith, area_pos n), record { first = stands_start end e p.within1 p.valid1; second = stands_start end e p.within2 p.valid2 })
+pub maps_start : {n : ℕ} {s w : List ℕ} (end : ℕ) → end ≡ 4 ^ n → Valid n (tiles s) → Valid n (tiles w) → (0 < end) × Both end (length s) s (length w) w 0 0 0
+maps_start {n} {s} {w} end e p q = (
+  omega (arith, area_pos n),
+  record { first = stands_start end e (omega arith) (rw (tiles_whole s) p); second = stands_start end e (omega arith) (rw (tiles_whole w) q) },
+)
+
+-- by the words of the checked lists
+pub third_whole : (rule : ℕ → ℕ → ℕ) (n t : ℕ) (s : List ℕ) (u : ℕ) (w : List ℕ) {o : ℕ} {x y : List ℕ} → o ≡ n → x ≡ take t s → y ≡ take u w → third_of rule o x y ≡ third_tiles rule n t s u w
+third_whole rule n t s u w {x = x} {y} e p q = rw (e, tiles_whole x, tiles_whole y, tree_tiles t s p, tree_tiles u w q) refl
 
 module _ (rule : ℕ → ℕ → ℕ) (n t : ℕ) (s : List ℕ) (m u : ℕ) (w out : List ℕ) where
   refused : (r : ℕ) → combine_refusal rule n t s m u w out ≡ r → (r ≡ accepted → ⊥) → Gives (record { number = r; tiles = 0 }) out (combine_by rule n t s m u w out)

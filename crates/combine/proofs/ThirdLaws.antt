@@ -26,8 +26,9 @@ use Rattle.bed.specs.Places.{scan_of}
 use Rattle.scan_check.proofs.Opening.{opening_opened, opened_opening}
 use Rattle.combine_rule.specs.declared.Choice.{Choice}
 use Rattle.combine_rule.specs.Rule.{rule_of, MakesAccounts, third_raster}
-use Rattle.combine_rule.proofs.RuleCases.{rule_accounts, rule_nobody}
-use Rattle.combine.specs.declared.Combined.{Combined}
+use Rattle.combine_rule.specs.Accounts.{rule_accounts}
+use Rattle.combine_rule.proofs.RuleCases.{rule_nobody}
+use Rattle.combine.specs.declared.CombineAnswer.{CombineAnswer}
 use Rattle.combine.specs.Combine.{third_tiles, maps_check, combine_refusal, combine_by, combine_of}
 use Rattle.combine.specs.ThirdMap.{ThirdMap, ThirdScanned}
 use Rattle.combine.proofs.CombineLaws.{maps_passed}
@@ -63,7 +64,7 @@ pub third_map : (rule : ℕ → ℕ → ℕ) → MakesAccounts rule → (n t : �
     (n ≡ m) × ThirdMap rule n t s u w out (combine_by rule n t s m u w out)
 unfolding combine_by combine_refusal
 third_map rule makes n t s m u w out e =
-    let r = sym (unless_number (λ (a : After Combined). a.answer.number) (combine_refusal rule n t s m u w out) (λ x. refl) refl) ∙ e in
+    let r = sym (unless_number (λ (a : After CombineAnswer). a.answer.number) (combine_refusal rule n t s m u w out) (λ x. refl) refl) ∙ e in
     let p = else_inv (maps_check n t s m u w) _ r in
     let q = maps_passed n t s m u w p.0 in
     let h = (must_inv (test_leb (length (third_tiles rule n t s u w)) (length out)) (omega arith) p.1).0 in

@@ -1,4 +1,5 @@
 -- A third list from two maps.
+pub mod Answers
 pub mod Combine
 pub mod Maps
 pub mod ThirdMap

@@ -18,13 +18,13 @@ use Rattle.bed.specs.Places.{scan_of}
 use Rattle.scan_check.specs.Opening.{opening}
 use Rattle.combine_rule.specs.declared.Choice.{Choice}
 use Rattle.combine_rule.specs.Rule.{third_raster}
-use Rattle.combine.specs.declared.Combined.{Combined}
+use Rattle.combine.specs.declared.CombineAnswer.{CombineAnswer}
 use Rattle.combine.specs.Combine.{combine_of}
 
-abbrev pub tiles_left : After Combined → List Tile
+abbrev pub tiles_left : After CombineAnswer → List Tile
 tiles_left x = tiles_in x.answer.tiles x.storage
 
-pub record ThirdMap (rule : ℕ → ℕ → ℕ) (n t : ℕ) (s : List ℕ) (u : ℕ) (w out : List ℕ) (x : After Combined)
+pub record ThirdMap (rule : ℕ → ℕ → ℕ) (n t : ℕ) (s : List ℕ) (u : ℕ) (w out : List ℕ) (x : After CombineAnswer)
     : Type 0 where
   -- "with unused slots 0", and as many slots as were lent
   pub lent : length x.storage ≡ length out
@@ -42,6 +42,6 @@ pub record ThirdMap (rule : ℕ → ℕ → ℕ) (n t : ℕ) (s : List ℕ) (u :
 -- the third map holds nothing that the first does not; every call on a scan takes it so
 abbrev pub ThirdScanned : Type 0
 ThirdScanned = (choice : Choice) (scan : Scan) (s : List ℕ) (m u : ℕ) (w out : List ℕ) →
-    let third : After Combined = combine_of choice scan.order scan.tiles s m u w out in
+    let third : After CombineAnswer = combine_of choice scan.order scan.tiles s m u w out in
     opening scan s ≡ accepted → third.answer.number ≡ accepted →
     opening (scan_of scan.kind scan.order scan.pixels third.answer.tiles) third.storage ≡ accepted

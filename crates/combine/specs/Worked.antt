@@ -6,7 +6,7 @@ use Rattle.refusal.specs.Refusal.{accepted, account_zero, tiles_overlap, orders_
 use Rattle.refusal.specs.Checks.{After}
 use Rattle.bed.specs.Worked.{words_m}
 use Rattle.combine_rule.specs.declared.Choice.TheVariants.{Inside, Outside}
-use Rattle.combine.specs.declared.Combined.{Combined}
+use Rattle.combine.specs.declared.CombineAnswer.{CombineAnswer}
 use Rattle.combine.specs.Combine.{combine_of}
 
 -- (0, 1, 3) (12, 1, 3), by corner, size, account, and a slot that is not used
@@ -14,7 +14,7 @@ unfoldable pub zones : List ℕ
 zones = 67 ∷ 12355 ∷ 0 ∷ []
 
 -- what a call gives: its number, the tile count, and what the third slice holds
-abbrev pub answered : ℕ → ℕ → List ℕ → After Combined
+abbrev pub answered : ℕ → ℕ → List ℕ → After CombineAnswer
 answered number count out = record { answer = record { number = number; tiles = count }; storage = out }
 
 -- three slots that hold something

@@ -7,7 +7,8 @@
 --     StepOf                 such a stretch of the raster f that two lists make, and their cursors at its end
 --     NextOf                 a step at z, or none, as z is the bed's end
 --     RunOf f .. z a r       from z on f has a whole run of the account a; r has its end and the next step there
---     BothOf, StepBy, RunBy  the same of two whole lists of words, and of the raster that a rule makes of them
+--     BothOf, StepBy, RunBy, NextBy   the same of two whole lists of words, and of the raster that a rule makes of them
+--     begin_of end r         where a step begins, or the bed's end where there is none
 use Rattle.std.specs.Prelude.{◌≡◌, List, ℕ, ◌≤◌, ◌<◌, length, drop, Option, None, Some}
 use Rattle.tile.specs.declared.Tile.{Tile}
 use Rattle.tile.specs.Tile.{highest_account}
@@ -68,3 +69,12 @@ StepBy rule end s w z r = StepOf (third_raster rule (length s) s (length w) w) e
 abbrev pub RunBy : (ℕ → ℕ → ℕ) → ℕ → List ℕ → List ℕ → Step → RunEnd → Type 0
 RunBy rule end s w b r =
     RunOf (third_raster rule (length s) s (length w) w) end (length s) s (length w) w b.from b.account r
+
+-- where a step begins; where there is none, the bed ends
+abbrev pub begin_of : ℕ → Option Step → ℕ
+begin_of end None = end
+begin_of end (Some r) = r.from
+
+abbrev pub NextBy : (ℕ → ℕ → ℕ) → ℕ → List ℕ → List ℕ → Option Step → Type 0
+NextBy rule end s w r =
+    NextOf (third_raster rule (length s) s (length w) w) end (length s) s (length w) w (begin_of end r) r

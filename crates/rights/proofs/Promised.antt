@@ -21,11 +21,11 @@ use Rattle.table.specs.Load.{table_of, load_of}
 use Rattle.table.proofs.Promised.{behind_yes, leaves, counts, old_passes}
 use Rattle.table.proofs.CountsLaws.{table_of_loaded}
 use Rattle.table.proofs.RiseLaws.{table_of_sound, may_own, may_rise}
-use Rattle.lookup.specs.declared.Found.{Found}
+use Rattle.lookup.specs.declared.LookupAnswer.{LookupAnswer}
 use Rattle.lookup.specs.Lookup.{lookup_check, lookup_of}
 use Rattle.lookup.proofs.LookupLaws.{lookup_of_number}
 use Rattle.lookup.proofs.LookupPromises.{lookup_account}
-use Rattle.rights.specs.declared.Right.{Right}
+use Rattle.rights.specs.declared.RightAnswer.{RightAnswer}
 use Rattle.rights.specs.Rights.{rights_of}
 use Rattle.rights.specs.Rests.{RightsByLookup}
 use Rattle.rights.specs.Promises.{answered, RightsNumber, RightsOwn, RightsRise, RightsLoaded, RightsOld}
@@ -45,18 +45,18 @@ module _ (table : List ℕ) (scan : Scan) (slots : List ℕ) (c r : ℕ) where
 
   pub number_grouped : (p : ℕ) → (rights_of table scan slots c r p).number ≡ checks p
   unfolding RightsByLookup
-  number_grouped p = ap (λ (a : Right). a.number) (rights_by_lookup table scan slots c r p) ∙ unless_number (λ (a : Right). a.number) (checks p) (λ n. refl) refl
+  number_grouped p = ap (λ (a : RightAnswer). a.number) (rights_by_lookup table scan slots c r p) ∙ unless_number (λ (a : RightAnswer). a.number) (checks p) (λ n. refl) refl
 
   -- a yes is of an accepted call
   said : (p : ℕ) → (rights_of table scan slots c r p).yes ≡ true → (checks p ≡ accepted) × (may_place (table_of table) p holder ≡ true)
   unfolding RightsByLookup
-  said p y = by_unless (λ (a : Right). a.yes ≡ true → (checks p ≡ accepted) × (may_place (table_of table) p holder ≡ true))
-      (checks p) (λ x e. absurd (let z : ◌≡◌ {A = ℕ} 0 1 = cc in omega arith)) (λ e h. (e, h)) (sym (ap (λ (a : Right). a.yes) (rights_by_lookup table scan slots c r p)) ∙ y)
+  said p y = by_unless (λ (a : RightAnswer). a.yes ≡ true → (checks p ≡ accepted) × (may_place (table_of table) p holder ≡ true))
+      (checks p) (λ x e. absurd (let z : ◌≡◌ {A = ℕ} 0 1 = cc in omega arith)) (λ e h. (e, h)) (sym (ap (λ (a : RightAnswer). a.yes) (rights_by_lookup table scan slots c r p)) ∙ y)
 
   -- somebody's pixel was looked up, and its account may ask
   found : 0 < holder → (lookup_of scan slots c r).number ≡ accepted
   unfolding lookup_of
-  found = by_unless (λ (f : Found). 0 < f.account → f.number ≡ accepted) (lookup_check scan slots c r) (λ x h. absurd (omega arith)) (λ e h. refl)
+  found = by_unless (λ (f : LookupAnswer). 0 < f.account → f.number ≡ accepted) (lookup_check scan slots c r) (λ x h. absurd (omega arith)) (λ e h. refl)
 
   holder_low : 0 < holder → holder ≤ highest_account
   unfolding tiles_in
@@ -97,7 +97,7 @@ module _ (file table : List ℕ) (scan : Scan) (slots : List ℕ) (c r p : ℕ) 
   by_file h =
       let t = (load_of file table).storage in
       let k = sym (number_grouped t scan slots c r p) ∙ h in
-      ap (λ (a : Right). a.yes) (by_table t scan slots c r p k) ∙ ap (λ (u : List ℕ). may_place u p (lookup_of scan slots c r).account) loaded
+      ap (λ (a : RightAnswer). a.yes) (by_table t scan slots c r p k) ∙ ap (λ (u : List ℕ). may_place u p (lookup_of scan slots c r).account) loaded
 
 pub rights_loaded : RightsLoaded
 unfolding RightsLoaded

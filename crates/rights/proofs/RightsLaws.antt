@@ -17,12 +17,12 @@ use Rattle.bed.specs.Places.{place_of}
 use Rattle.checks.specs.Asked.{point_check, asker_check}
 use Rattle.scan_check.specs.Opening.{opening}
 use Rattle.scan_check.specs.Scanned.{scanned_check}
-use Rattle.lookup.specs.declared.Found.{Found}
+use Rattle.lookup.specs.declared.LookupAnswer.{LookupAnswer}
 use Rattle.lookup.specs.Lookup.{lookup_check, lookup_of}
 use Rattle.lookup.specs.Promises.{LookupAlike}
 use Rattle.lookup.proofs.LookupLaws.{lookup_check_passed, lookup_of_number}
 use Rattle.lookup.proofs.LookupPromises.{lookup_account, lookup_alike}
-use Rattle.rights.specs.declared.Right.{Right}
+use Rattle.rights.specs.declared.RightAnswer.{RightAnswer}
 use Rattle.table.specs.Table.{may_place}
 use Rattle.table.specs.Load.{table_of}
 use Rattle.rights.specs.Rights.{rights_check, rights_of}
@@ -46,7 +46,7 @@ module _ (scan : Scan) (slots : List ℕ) (c r p : ℕ) where
 pub rights_by_lookup : RightsByLookup
 unfolding RightsByLookup rights_of
 rights_by_lookup table scan slots c r p = rw (same_checks scan slots c r p)
-    (unless_alike (λ (a b : Right). a ≡ b) (rights_check scan slots c r p) (λ x. refl)
+    (unless_alike (λ (a b : RightAnswer). a ≡ b) (rights_check scan slots c r p) (λ x. refl)
     (λ e. ap (λ (h : ℕ). record { number = accepted; yes = may_place (table_of table) p h }) (sym (lookup_account scan slots c r (else_inv _ _ (checks_grouped scan slots c r p ∙ e)).0))))
 
 pub rights_alike : RightsAlike
@@ -57,11 +57,11 @@ rights_alike table scan slots c r c' r' p e i =
 pub rights_scanned : RightsScanned
 unfolding RightsScanned rights_of
 rights_scanned table scan slots c r p = by_unless
-    (λ (a : Right). a.yes ≡ true → (c < 2 ^ scan.order) × (r < 2 ^ scan.order) × (place_of scan.kind scan.order (morton scan.order c r) < scan.pixels))
+    (λ (a : RightAnswer). a.yes ≡ true → (c < 2 ^ scan.order) × (r < 2 ^ scan.order) × (place_of scan.kind scan.order (morton scan.order c r) < scan.pixels))
     (rights_check scan slots c r p) (λ x e. absurd (let z : ◌≡◌ {A = ℕ} 0 1 = cc in omega arith))
     (λ e y. let q = lookup_check_passed scan slots c r (else_inv _ _ (checks_grouped scan slots c r p ∙ e)).0 in (q.column, q.row, q.scanned))
 
-module _ (table : List ℕ) (scan : Scan) (slots : List ℕ) (c r p : ℕ) (f : Found) (is : f ≡ lookup_of scan slots c r) where
+module _ (table : List ℕ) (scan : Scan) (slots : List ℕ) (c r p : ℕ) (f : LookupAnswer) (is : f ≡ lookup_of scan slots c r) where
   by_found : rights_of table scan slots c r p ≡ unless (or_else f.number (asker_check p)) (λ number. record { number = number; yes = false }) (record { number = accepted; yes = may_place (table_of table) p f.account })
   unfolding RightsByLookup
   by_found = rw is (rights_by_lookup table scan slots c r p)

@@ -16,10 +16,10 @@ use Rattle.table.specs.Table.{class_of, row_of, pixel_kind, old_table}
 use Rattle.table.specs.Load.{load_of}
 use Rattle.table.specs.Promises.{Yes, Loadable}
 use Rattle.lookup.specs.Lookup.{lookup_of}
-use Rattle.rights.specs.declared.Right.{Right}
+use Rattle.rights.specs.declared.RightAnswer.{RightAnswer}
 use Rattle.rights.specs.Rights.{rights_of}
 
-abbrev pub answered : ℕ → Bool → Right
+abbrev pub answered : ℕ → Bool → RightAnswer
 answered number answer = record { number = number; yes = answer }
 
 unfoldable pub RightsNumber : Type 0

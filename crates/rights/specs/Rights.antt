@@ -14,13 +14,13 @@ use Rattle.scan_check.specs.Opening.{opening}
 use Rattle.scan_check.specs.Scanned.{scanned_check}
 use Rattle.table.specs.Table.{may_place}
 use Rattle.table.specs.Load.{table_of}
-use Rattle.rights.specs.declared.Right.{Right}
+use Rattle.rights.specs.declared.RightAnswer.{RightAnswer}
 
 unfoldable pub rights_check : Scan → List ℕ → ℕ → ℕ → ℕ → ℕ
 rights_check scan slots c r p = or_else (opening scan slots)
     (or_else (point_check scan.order c r) (or_else (scanned_check scan (morton scan.order c r)) (asker_check p)))
 
-unfoldable pub rights_of : List ℕ → Scan → List ℕ → ℕ → ℕ → ℕ → Right
+unfoldable pub rights_of : List ℕ → Scan → List ℕ → ℕ → ℕ → ℕ → RightAnswer
 rights_of table scan slots c r p =
     unless (rights_check scan slots c r p)
     (λ number. record { number = number; yes = false })

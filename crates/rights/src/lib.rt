@@ -2,42 +2,46 @@
 #![tactic(auto)]
 
 ghost use Rattle.std.specs.Prelude.{◌≡◌};
+ghost use Rattle.rights.specs.Answers.{right_answer};
 ghost use Rattle.rights.specs.Rights.{rights_of};
 
-// The rights call's answer.
+use bed::{Point, Scan};
+use refusal::Refusal;
+
+// The rights call's answer, as C gets it: refused, the refusal's number and no.
 #[repr(C)]
-#[derive(Clone, Copy)]
-pub struct Right {
+#[derive(Clone, Copy, Debug, PartialEq, Eq)]
+pub struct RightAnswer {
     pub number: u32,
     pub yes: bool,
 }
 
-// The offered call: may the asking account place at the pixel in a column and a row, by the table that counts where
-// `table` is handed in? Refused, the first refusal and no. It rests on lookup's answer: first lookup's refusals, then
-// 34.
+impl From<Result<bool, Refusal>> for RightAnswer {
+    ghost from_gives = { λ r a. a ≡ right_answer r };
+
+    fn from(answer: Result<bool, Refusal>) -> RightAnswer {
+        match answer {
+            Ok(yes) => RightAnswer { number: 0, yes },
+            Err(refusal) => RightAnswer {
+                number: u32::from(refusal),
+                yes: false,
+            },
+        }
+    }
+}
+
+// The offered call: may the asking account place at a point, by the table that counts where `table` is handed in? It
+// rests on lookup's answer: first lookup's refusals, then 34.
 pub fn rights(
     table: &[u8],
-    scan: bed::Scan,
+    scan: Scan,
     slots: &[u32],
-    column: u32,
-    row: u32,
+    point: Point,
     asking: u8,
-) -> Right
-    ensures { result ≡ rights_of table.now scan slots.now column row asking }
+) -> Result<bool, Refusal>
+    ensures { right_answer result ≡ rights_of table.now scan slots.now point.column point.row asking }
 {
-    let found = lookup::lookup(scan, slots, column, row);
-    if found.number != refusal::ACCEPTED {
-        return Right {
-            number: found.number,
-            yes: false,
-        };
-    }
-    let number = checks::asker(asking);
-    if number != refusal::ACCEPTED {
-        return Right { number, yes: false };
-    }
-    Right {
-        number: refusal::ACCEPTED,
-        yes: table::may_place(table, asking, found.account),
-    }
+    let found = lookup::lookup(scan, slots, point)?;
+    checks::asker(asking)?;
+    Ok(table::may_place(table, asking, found.account))
 }
