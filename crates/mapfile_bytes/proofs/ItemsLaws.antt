@@ -7,11 +7,12 @@
 --     word_at_take     a number is read from a part that has its bytes
 --     words_at_drop    words are read from where they stand
 --     words_in         bytes in fours are words
+--     get_or_word      each of them by its bytes
 use mathlib.Core.Path.{◌≡◌, refl, ap, ◌∙◌}
 use mathlib.Core.List.{List, [], ◌∷◌, map}
 use Prim.Native.Nat.{ℕ, zero, suc, ◌+◌, ◌*◌, ◌/◌, ◌%◌, ◌^◌, ◌<◌}
 use native.Mathlib.Omega.{arith}
-use lib.ListN.{length, take, drop, get_or}
+use lib.ListN.{length, take, drop, get_or, get_or-map}
 use lib.Seq.{get_or-drop, get_or-take}
 use Rattle.std.specs.Int.{w32, from_be_bytes}
 use Rattle.std.specs.Simd.{first_chunks}
@@ -64,3 +65,7 @@ pub words_in : (t : ℕ) (bs : List ℕ) → map (λ w. word_at w 0) (first_chun
 unfolding words_at
 words_in zero bs = refl
 words_in (suc t) bs = rw (word_at_take 4 bs 0 (omega arith), words_in t (drop 4 bs), words_at_drop 4 t bs 0) refl
+
+pub get_or_word : (ws : List (List ℕ)) (i : ℕ) → get_or (map (λ w. word_at w 0) ws) i 0 ≡ word_at (get_or ws i []) 0
+unfolding word_at
+get_or_word ws i = get_or-map (λ w. word_at w 0) ws i []

@@ -9,7 +9,7 @@ use Rattle.refusal.specs.Refusal.{accepted, unscanned}
 use Rattle.bed.specs.declared.Scan.{Scan}
 use Rattle.bed.specs.Places.{scan_of, place_of}
 use Rattle.scan_check.specs.Opening.{opening}
-use Rattle.mapfile_read.specs.declared.Reading.{Reading}
+use Rattle.mapfile_read.specs.declared.ReadAnswer.{ReadAnswer}
 use Rattle.mapfile_read.specs.Reader.{read_of}
 use Rattle.mapfile_write.specs.Writer.{write_check, write_of}
 
@@ -26,7 +26,7 @@ abbrev pub WrittenWhole : Type 0
 WrittenWhole = (scan : Scan) (slots file others : List ℕ) →
     (write_of scan slots file).answer.number ≡ accepted → scan.tiles ≤ length others →
     let written = write_of scan slots file in
-    let map : Reading = (read_of (take written.answer.length written.storage) others).answer in
+    let map : ReadAnswer = (read_of (take written.answer.length written.storage) others).answer in
     scan_of scan.kind map.order (4 ^ map.order) map.tiles ≡ scan
 
 abbrev pub WritesScanned : Type 0

@@ -1,3 +1,3 @@
 -- The reader of a map file.
 pub mod Reader
-pub mod Examined
+pub mod Answers

@@ -19,7 +19,7 @@ use Rattle.bed.specs.Bed.{Bed}
 use Rattle.mapfile_bytes.specs.Layout.{count_place, word_length, words_place, roster_place}
 use Rattle.mapfile_bytes.specs.Items.{word_at, words_at}
 use Rattle.mapfile_entries.specs.RosterCheck.{roster_check}
-use Rattle.mapfile_read.specs.declared.Reading.{Reading}
+use Rattle.mapfile_read.specs.declared.ReadAnswer.{ReadAnswer}
 
 unfoldable pub tiles_check : ℕ → ℕ → List Tile → List ℕ → ℕ → ℕ
 tiles_check n zero seen bs p = accepted
@@ -45,7 +45,7 @@ file_check m bs =
     (or_else (tiles_check (file_order bs) (file_count bs) [] bs words_place)
     (roster_check (map tile_of (file_words bs)) (drop (roster_place (file_count bs)) bs))))))
 
-unfoldable pub read_of : List ℕ → List ℕ → After Reading
+unfoldable pub read_of : List ℕ → List ℕ → After ReadAnswer
 read_of bs slots =
     unless (file_check (length slots) bs)
     (λ number. record { answer = record { number = number; order = 0; tiles = 0 }; storage = slots })

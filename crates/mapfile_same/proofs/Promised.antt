@@ -30,7 +30,7 @@ use Rattle.bed.proofs.PlaceLaws.{place_of_lt, pixel_at_place_of, rows_at}
 use Rattle.scan_check.specs.Opening.{opening}
 use Rattle.scan_check.proofs.ScannedLaws.{finished_all}
 use Rattle.scan_check.proofs.Opening.{opening_opened, opened_opening}
-use Rattle.mapfile_read.specs.declared.Reading.{Reading}
+use Rattle.mapfile_read.specs.declared.ReadAnswer.{ReadAnswer}
 use Rattle.mapfile_read.specs.Reader.{file_order, file_count, file_check, read_bed, read_of}
 use Rattle.mapfile_read.proofs.ReaderLaws.{Passed, read_of_valid, read_of_accepted}
 use Rattle.mapfile_write.specs.Writer.{file_of, ready_check, write_of}
@@ -55,10 +55,10 @@ module _ (file slots : List ℕ) (e : ReaderAccepts file slots) where
   answer_read = rw (read_of_accepted file slots checked)
 
   order_read : (read_of file slots).answer.order ≡ file_order file
-  order_read = ap (λ (r : Reading). r.order) answer_read
+  order_read = ap (λ (r : ReadAnswer). r.order) answer_read
 
   tiles_read : (read_of file slots).answer.tiles ≡ file_count file
-  tiles_read = ap (λ (r : Reading). r.tiles) answer_read
+  tiles_read = ap (λ (r : ReadAnswer). r.tiles) answer_read
 
   decoded_read : (raster : List ℕ) → length raster ≡ 4 ^ (read_of file slots).answer.order → decoded file slots raster ≡ rows (file_order file) (account_at (tiles_of file))
   decoded_read raster l =
@@ -193,7 +193,7 @@ one_file = record {
       );
   slots = λ file slots others e.
       let t = tiles_read file slots e in (
-        λ q. omega (arith, t, (passed file others (ap (λ (r : Reading). r.number) q ∙ e)).count),
+        λ q. omega (arith, t, (passed file others (ap (λ (r : ReadAnswer). r.number) q ∙ e)).count),
         λ h. answer_read file others (enough file slots e others (omega (arith, t, h))) ∙ sym (answer_read file slots e),
       );
   file = λ scan slots lent e.

@@ -7,12 +7,12 @@ use Rattle.refusal.specs.Checks.{After}
 use Rattle.bed.specs.declared.Kind.TheVariants.{Rows, Morton}
 use Rattle.bed.specs.Places.{scan_of}
 use Rattle.bed.specs.Worked.{words_m}
-use Rattle.mapfile_read.specs.declared.Reading.{Reading}
+use Rattle.mapfile_read.specs.declared.ReadAnswer.{ReadAnswer}
 use Rattle.mapfile_read.specs.Reader.{read_of}
 use Rattle.mapfile_laws.specs.Worked.{file_m}
 use Rattle.mapfile_same.specs.Same.{written}
 
-abbrev pub in_five : List ℕ → After Reading
+abbrev pub in_five : List ℕ → After ReadAnswer
 in_five file = read_of file (replicate 5 1)
 
 pub record SameLines : Type 0 where

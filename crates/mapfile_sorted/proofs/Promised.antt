@@ -25,7 +25,7 @@ use Rattle.mapfile_roster.proofs.GoodLaws.{test_good, listed_some}
 use Rattle.mapfile_roster.proofs.RisingLaws.{roster_only}
 use Rattle.mapfile_entries.specs.RosterCheck.{entries_at, roster_check}
 use Rattle.mapfile_entries.proofs.EntriesInTurn.{rise_rising}
-use Rattle.mapfile_read.specs.declared.Reading.{Reading}
+use Rattle.mapfile_read.specs.declared.ReadAnswer.{ReadAnswer}
 use Rattle.mapfile_read.specs.Reader.{file_order, file_count, file_words, file_check, read_of}
 use Rattle.mapfile_read.proofs.ReaderLaws.{file_check_passed, file_check_roster, tiles_check_valid}
 use Rattle.mapfile_write.specs.Writer.{file_of, write_check, write_of}
@@ -60,7 +60,7 @@ test_false (fails p) n = refl
 
 pub read_number : (file slots : List ℕ) → (read_of file slots).answer.number ≡ file_check (length slots) file
 unfolding read_of
-read_number file slots = unless_number (λ (x : After Reading). x.answer.number) (file_check (length slots) file) (λ r. refl) refl
+read_number file slots = unless_number (λ (x : After ReadAnswer). x.answer.number) (file_check (length slots) file) (λ r. refl) refl
 
 roster_rises : (file : List ℕ) → file_entries file ≡ roster_of (tiles_of file) → Rises (section file)
 roster_rises file e j = by_place (section file) (entry_count (section file)) 1 1 j (rw e (roster_of_rising (tiles_of file)))

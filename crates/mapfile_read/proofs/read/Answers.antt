@@ -1,21 +1,18 @@
 -- A refusal leaves before any store; an accepted file has room for what is read of it.
-use Rattle.mapfile_read.proofs.Examining.{read_refused, read_room, read_stored}
-use Rattle.mapfile_read.proofs.ReadStores.{store_room}
+use Rattle.std.proofs.Common.{rules}
+use Rattle.refusal.proofs.RefusedLaws.{unless_refused}
+use Rattle.mapfile_read.specs.Reader.{read_of}
+use Rattle.mapfile_read.proofs.Examining.{read_room, read_stored}
 use Rattle.mapfile_read.proofs.read.Goals as goal
 
-pub returns-then-reading-ne-ACCEPTED : goal.returns-then-reading-ne-ACCEPTED
-returns-then-reading-ne-ACCEPTED c = read_refused _ _ _ c.examine-reading.ensures c.if-reading-ne-ACCEPTED.true
+pub returns-in_err-order : goal.returns-in_err-order
+unfolding read_of
+returns-in_err-order c = search (rules, unless_refused)
 
 pub returns : goal.returns
 returns c =
-    let e = c.examine-reading.ensures in
-    let h = c.if-reading-ne-ACCEPTED.false in
-    read_stored _ _ _ e h _ _ c.store.ensures c.clear_from.ensures
+    let e = c.in_ok-order.ensures in
+    read_stored _ _ e.number _ e.found.1 _ _ _ e.found.0 c.store.ensures c.clear_from.ensures
 
 pub store-requires : goal.store-requires
-store-requires c =
-    let a = c.args in
-    read_room a.file.now a.slots.now _ c.examine-reading.ensures c.if-reading-ne-ACCEPTED.false
-
-pub clear_from-requires : goal.clear_from-requires
-clear_from-requires c = store_room _ _ _ _ _ c.store.ensures
+store-requires c = let e = c.in_ok-order.ensures in read_room _ _ e.number _ e.found.1
