@@ -93,8 +93,8 @@ pub fn put_quad(slots: &mut [u32], gap: Gap, z: u32, quad: [u8; 4]) -> Gap
     put_alone(slots, third, z + 3, d)
 }
 
-// Puts so many accounts, from number `at` on, on the pixels from z on, where the gap lies: whole quads. The pixel and
-// the account's number move by fours together.
+// Puts so many accounts, from number `at` on, on the pixels from z on, where the gap lies: whole quads. Chunks of four
+// would be no plainer: the pixel would still be counted by hand.
 pub fn put_stretch(
     slots: &mut [u32],
     gap: Gap,
