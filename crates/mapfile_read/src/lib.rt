@@ -124,8 +124,10 @@ pub fn read(file: &[u8], slots: &mut [u32]) -> Result<Reading, Refusal>
     ensures { Gives (read_answer result) slots.new (read_of file.now slots.old) }
 {
     let Examined { order, words } = examine(slots.len(), file)?;
-    let tiles = words.len();
     store(words, slots);
-    list_words::clear_from(slots, tiles);
-    Ok(Reading { order, tiles })
+    list_words::clear_from(slots, words.len());
+    Ok(Reading {
+        order,
+        tiles: words.len(),
+    })
 }
