@@ -2,7 +2,7 @@
 --     maps_passed                               two maps that pass their checks
 --     maps_start                                the cursors at the start of such maps
 --     third_whole                               the third map by the words of the checked lists
---     maps_first, -second, -orders, -accepted   these checks, by how each ends
+--     maps_orders, maps_accepted                these checks, where both lists pass
 --     combine_by_refused, -slots, -done          the call refused by them, refused by 25, and accepted
 use mathlib.Core.Path.{◌≡◌, refl, sym, ◌∙◌}
 use mathlib.Core.List.{List, ◌++◌, map}
@@ -38,15 +38,7 @@ module _ (n t : ℕ) (s : List ℕ) (m u : ℕ) (w : List ℕ) where
       let x = (list_check_valid m u w).0 q.0 in
       (record { few = v.0; within1 = v.1; valid1 = v.2; within2 = x.1; valid2 = rw d x.2 }, d)
 
-  pub maps_first : (r : ℕ) → r ≡ list_check n t s → (r ≡ accepted → ⊥) → r ≡ maps_check n t s m u w
-  unfolding maps_check
-  maps_first r e h = rw (← e) (sym (else_off r _ h))
-
   module _ (g : list_check n t s ≡ accepted) where
-    pub maps_second : (r : ℕ) → r ≡ list_check m u w → (r ≡ accepted → ⊥) → r ≡ maps_check n t s m u w
-    unfolding maps_check
-    maps_second r e h = rw (else_on (list_check n t s) _ g, ← e) (sym (else_off r _ h))
-
     module _ (k : list_check m u w ≡ accepted) where
       pub maps_orders : (n ≡ m → ⊥) → orders_differ ≡ maps_check n t s m u w
       unfolding maps_check
