@@ -1,17 +1,16 @@
 // The listings of inputs at the limits, one behind the other.
 #![tactic(auto)]
 
-// Writes the first bytes of `out` to standard output.
-fn write_first(out: &[u8], length: usize) {
-    if length <= out.len() {
-        io::write_all(1, &out[0..length]);
-    }
-}
+use std::io::Write;
 
-fn show(input: &[u8]) {
+// Writes the listing of an input to standard output.
+fn show(rt: &HostRuntime, input: &[u8]) {
     let mut out = [0u8; listing_whole::LISTING_BYTES];
-    let listed = listing::list(input, &mut out);
-    write_first(&out, listed.length);
+    if let Ok(length) = listing::list(input, &mut out) {
+        if let Some(text) = out.get(..length) {
+            rt.stdout().write_all(text).ok();
+        }
+    }
 }
 
 // An account unlike those of the neighbours.
@@ -20,33 +19,32 @@ fn account(i: usize) -> u8 {
 }
 
 fn fill(input: &mut [u8]) {
-    let mut i = 1;
-    while i < input.len() {
+    for i in 1..input.len() {
         input[i] = account(i);
-        i += 1;
     }
 }
 
-fn main() {
+fn main(rt: HostRuntime) {
+    let rt = &rt;
     // nothing
     let input = [0u8; 1];
-    show(&input[..0]);
+    show(rt, &input[..0]);
     // an order that is not listed
-    show(b"\x07\x01");
+    show(rt, b"\x07\x01");
     // order 0: one pixel, none, one too many
-    show(b"\x00\x3f");
-    show(b"\x00");
-    show(b"\x00\x05\x05");
+    show(rt, b"\x00\x3f");
+    show(rt, b"\x00");
+    show(rt, b"\x00\x05\x05");
     // an account too large
-    show(b"\x01\x07\x40\x07\x07");
+    show(rt, b"\x01\x07\x40\x07\x07");
     // too few and too many bytes
-    show(b"\x01\x07\x07\x07");
-    show(b"\x01\x07\x07\x07\x07\x07");
+    show(rt, b"\x01\x07\x07\x07");
+    show(rt, b"\x01\x07\x07\x07\x07\x07");
     // order 6, no two neighbours alike
     let mut large = [6u8; 1 + 4096];
     fill(&mut large);
-    show(&large);
+    show(rt, &large);
     // order 6, one pixel too many
     let full = [6u8; listing_whole::INPUT_BYTES];
-    show(&full);
+    show(rt, &full);
 }

@@ -2,23 +2,25 @@
 --     tile_line_most      how long a line is at most
 --     tile_lines_most     how long the lines of tiles are at most, if no line is longer than k
 --     tile_lines_next     one more tile
---     line_put           the line of a word's tile, put as three numbers
 --     lines_none, lines_next    the lines of the first tiles, put
-use mathlib.Core.Path.{◌≡◌, refl, sym}
+--     lines_taken        the lines of a list are those of its part of the slots
+use mathlib.Core.Path.{◌≡◌, refl, sym, ap}
 use mathlib.Core.List.{List, [], ◌∷◌, ◌++◌, append_assoc, append-nil, map, Memᴰ}
 use Prim.Native.Nat.{ℕ, zero, suc, ◌+◌, ◌*◌, ◌≤◌, ◌<◌}
 use native.Mathlib.Nat.{mul-suc}
 use native.Mathlib.Omega.{arith}
 use native.Mathlib.Numerals.{add-one}
 use lib.ListN.{length, take, get_or, length-append}
+use lib.Seq.{take_all, length-take-le}
 use Rattle.tile.specs.declared.Tile.{Tile}
 use Rattle.tile.specs.Tile.{tile_of}
 use Rattle.tile.specs.Slots.{tiles_in}
-use Rattle.text.specs.PutAt.{PutAt}
-use Rattle.text.proofs.PutAtLaws.{put_at_none, put_at_then}
-use Rattle.decimal.specs.Lines.{triple_most, triple_line}
+use Rattle.text.specs.declared.Writer.{Writer}
+use Rattle.text.specs.Puts.{Puts}
+use Rattle.text.proofs.PutAtLaws.{puts_none, puts_then}
+use Rattle.decimal.specs.Lines.{triple_most}
 use Rattle.decimal.proofs.LinesLaws.{triple_line_most}
-use Rattle.listing.specs.Listing.{tile_line, tile_lines}
+use Rattle.listing.specs.Listing.{tile_line, tile_lines, scan_lines}
 
 pub tile_line_most : (t : Tile) → length (tile_line t) ≤ triple_most
 unfolding tile_line
@@ -41,15 +43,17 @@ pub tile_lines_next : (ws : List ℕ) (i : ℕ) → i < length ws → tile_lines
 unfolding tiles_in
 tile_lines_next ws i h = rw (add-one i) (next ws i h)
 
-pub line_put : (w : ℕ) {c s a at : ℕ} {old : List ℕ} {end : ℕ} {new : List ℕ} → c ≡ (tile_of w).corner → s ≡ (tile_of w).size → a ≡ (tile_of w).account →
-    PutAt (triple_line c s a) at old end new → PutAt (tile_line (tile_of w)) at old end new
-unfolding tile_line
-line_put w e f g v = rw (e, f, g) at v
-
-pub lines_none : (ws : List ℕ) (at : ℕ) (out : List ℕ) → PutAt (tile_lines (tiles_in 0 ws)) at out at out
+pub lines_none : (ws : List ℕ) (writer : Writer) → Puts (tile_lines (tiles_in 0 ws)) writer writer
 unfolding tile_lines tiles_in
-lines_none ws at out = put_at_none at out
+lines_none ws writer = puts_none writer
 
-pub lines_next : (ws : List ℕ) (i : ℕ) {at : ℕ} {old : List ℕ} {mid : ℕ} {half : List ℕ} {end : ℕ} {new : List ℕ} → i < length ws →
-    PutAt (tile_lines (tiles_in i ws)) at old mid half → PutAt (tile_line (tile_of (get_or ws i 0))) mid half end new → PutAt (tile_lines (tiles_in (i + 1) ws)) at old end new
-lines_next ws i h v w = rw (tile_lines_next ws i h) (put_at_then v w)
+pub lines_next : (ws : List ℕ) (i : ℕ) {old half new : Writer} → i < length ws → Puts (tile_lines (tiles_in i ws)) old half →
+    Puts (tile_line (tile_of (get_or ws i 0))) half new → Puts (tile_lines (tiles_in (i + 1) ws)) old new
+lines_next ws i h v w = rw (tile_lines_next ws i h) (puts_then v w)
+
+tiles_taken : (t : ℕ) (ws : List ℕ) → tiles_in (length (take t ws)) (take t ws) ≡ tiles_in t ws
+unfolding tiles_in
+tiles_taken t ws = ap (map tile_of) (take_all (length (take t ws)) (take t ws) (omega arith))
+
+pub lines_taken : (n t : ℕ) (ws : List ℕ) (number taken : ℕ) → t ≤ length ws → scan_lines n (length (take t ws)) (take t ws) number taken ≡ scan_lines n t ws number taken
+lines_taken n t ws number taken h = rw (tiles_taken t ws, length-take-le t ws h) refl

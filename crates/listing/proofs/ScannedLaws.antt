@@ -1,5 +1,7 @@
 -- What a fresh row scan, fed once, leaves: the listing of it, and that its list fits the slots.
 --     fed_room       its list fits the slots
+--     fresh_of_accepted   a fresh scan of an order that is none too large
+--     fresh_never    an order that is listed is not refused
 --     list_empty, list_large, list_scanned   the offered call, by how far its input is taken
 use mathlib.Core.Path.{◌≡◌, refl, ap, sym, ◌∙◌}
 use mathlib.Core.List.{List, [], ◌∷◌}
@@ -9,14 +11,18 @@ use lib.ListN.{length, take, drop, get_or, replicate}
 use lib.Seq.{take_all}
 use Rattle.basics.proofs.Tests.{test_leb}
 use Rattle.basics.proofs.ChoiceLaws.{if_yes, if_no}
-use Rattle.refusal.specs.Refusal.{order_too_large, file_cut_short}
-use Rattle.refusal.specs.Checks.{After}
+use Rattle.refusal.specs.Refusal.{accepted, order_too_large, file_cut_short}
+use Rattle.refusal.specs.Checks.{must, After}
+use Rattle.refusal.specs.declared.Refusal.{Refusal}
+use Rattle.refusal.proofs.CheckLaws.{must_on, unless_on}
+use Rattle.refusal.proofs.RefusedLaws.{number_some}
+use Rattle.tile.specs.Tile.{highest_order}
+use Rattle.std.specs.Prelude.{leb, Err}
 use Rattle.bed.specs.declared.Kind.{Kind}
 use Rattle.bed.specs.declared.Kind.TheVariants.{Rows}
-use Rattle.scan.specs.declared.Fresh.{Fresh}
-use Rattle.scan.specs.declared.Fed.{Fed}
-use Rattle.scan.specs.FreshScan.{fresh_of}
-use Rattle.scan.specs.Feed.{feed_of}
+use Rattle.bed.specs.Places.{scan_of}
+use Rattle.scan.specs.FreshScan.{Fresh, fresh_answer, fresh_of}
+use Rattle.scan.specs.Feed.{Fed, feed_of}
 use Rattle.scan.proofs.Feeds.{fresh_of_blank, feed_of_room}
 use Rattle.listing.specs.Listing.{stop_line, scan_lines, listed_order, listed_slots, fed_listing, listing, listed_in, list_of}
 
@@ -32,22 +38,32 @@ module _ (k : Kind) (n : ℕ) (slots accounts : List ℕ) (f : Fresh) (half : Li
       let q : (g.scan.tiles ≤ length (fresh_of k n slots).storage) × (length left ≡ length (fresh_of k n slots).storage) = rw fed_is at r in
       (omega (arith, q.0, b.1), q.1 ∙ b.1)
 
+pub fresh_of_accepted : (k : Kind) (n : ℕ) (slots : List ℕ) → n ≤ highest_order →
+    fresh_of k n slots ≡ record { answer = record { number = accepted; scan = scan_of k n 0 0 }; storage = replicate (length slots) 0 }
+unfolding fresh_of
+fresh_of_accepted k n slots h = unless_on _ _ _ (must_on order_too_large accepted (test_leb n highest_order) h)
+
+-- an order that is listed is not refused
+pub fresh_never : {A : Type 0} (k : Kind) (n : ℕ) (slots half : List ℕ) (r : Refusal) → n ≤ listed_order →
+    ◌≡◌ {A = After Fresh} (record { answer = fresh_answer k (Err r); storage = half }) (fresh_of k n slots) → A
+fresh_never k n slots half r l e =
+    let p = ap (λ (x : After Fresh). x.answer.number) (e ∙ fresh_of_accepted k n slots (omega arith)) in
+    absurd (omega (arith, number_some r, p))
+
 pub list_empty : (input out : List ℕ) → length input ≡ 0 → listed_in (stop_line file_cut_short 0) out ≡ list_of input out
 unfolding listing
 list_empty [] out h = refl
 list_empty (n ∷ accounts) out h = absurd (omega arith)
 
-pub list_large : (input out : List ℕ) → 0 < length input → listed_order < get_or input 0 0 → listed_in (stop_line order_too_large 0) out ≡ list_of input out
+pub list_large : (n : ℕ) (accounts out : List ℕ) → listed_order < n → listed_in (stop_line order_too_large 0) out ≡ list_of (n ∷ accounts) out
 unfolding listing
-list_large [] out h g = absurd (omega arith)
-list_large (n ∷ accounts) out h g = ap (λ (bytes : List ℕ). listed_in bytes out) (sym (if_no _ _ (test_leb n listed_order) (λ l. omega arith)))
+list_large n accounts out g = ap (λ (bytes : List ℕ). listed_in bytes out) (sym (if_no _ _ (test_leb n listed_order) (λ l. omega arith)))
 
-pub list_scanned : (input out : List ℕ) (f : Fresh) (half : List ℕ) (g : Fed) (left : List ℕ) → 0 < length input → get_or input 0 0 ≤ listed_order →
-    ◌≡◌ {A = After Fresh} (record { answer = f; storage = half }) (fresh_of Rows (get_or input 0 0) (replicate listed_slots 0)) →
-    ◌≡◌ {A = After Fed} (record { answer = g; storage = left }) (feed_of f.scan half (take (length input - 1) (drop 1 input))) →
-    listed_in (scan_lines g.scan.order g.scan.tiles left g.number g.taken) out ≡ list_of input out
+pub list_scanned : (n : ℕ) (accounts out : List ℕ) (f : Fresh) (half : List ℕ) (g : Fed) (left : List ℕ) → n ≤ listed_order →
+    ◌≡◌ {A = After Fresh} (record { answer = f; storage = half }) (fresh_of Rows n (replicate listed_slots 0)) →
+    ◌≡◌ {A = After Fed} (record { answer = g; storage = left }) (feed_of f.scan half accounts) →
+    listed_in (scan_lines g.scan.order g.scan.tiles left g.number g.taken) out ≡ list_of (n ∷ accounts) out
 unfolding listing fed_listing
-list_scanned [] out f half g left h l e d = absurd (omega arith)
-list_scanned (n ∷ accounts) out f half g left h l e d =
-    let rest : take (suc (length accounts) - 1) accounts ≡ accounts = take_all (suc (length accounts) - 1) accounts (omega arith) in
-    ap (λ (bytes : List ℕ). listed_in bytes out) (ap fed_listing (sym (fed_is Rows n (replicate listed_slots 0) accounts f half g left e (rw rest at d))) ∙ sym (if_yes _ _ (test_leb n listed_order) l))
+list_scanned n accounts out f half g left l e d =
+    ap (λ (bytes : List ℕ). listed_in bytes out)
+    (ap fed_listing (sym (fed_is Rows n (replicate listed_slots 0) accounts f half g left e d)) ∙ sym (if_yes _ _ (test_leb n listed_order) l))

@@ -1,2 +1,3 @@
 -- The listing of a scanned bed.
 pub mod Listing
+pub mod Answers

@@ -5,6 +5,7 @@
 --     listed_order               the highest order that is listed
 --     listed_slots               the slots that are lent
 --     listing input             the listing of an input: an order, then account bytes by rows
+--     Listed                     a listing's number and length
 --     listed_to number end out   a listing's answer, with what the bytes lent for it hold afterwards
 --     listed_in bytes out        a listing of these bytes in the bytes lent, of which those past it are not touched
 --     list_of input out          the offered call
@@ -19,7 +20,6 @@ use Rattle.tile.specs.Slots.{tiles_in}
 use Rattle.bed.specs.declared.Kind.TheVariants.{Rows}
 use Rattle.scan.specs.FreshScan.{fresh_of}
 use Rattle.scan.specs.Feed.{Fed, feed_of}
-use Rattle.listing.specs.declared.Listed.{Listed}
 
 -- "bed ", " tiles ", "stop ", " taken "
 abbrev pub bed_word : List ℕ
@@ -67,6 +67,11 @@ fed_listing r =
 unfoldable pub listing : List ℕ → List ℕ
 listing [] = stop_line file_cut_short 0
 listing (n ∷ accounts) = if (leb n listed_order) (fed_listing (row_fed n accounts)) (stop_line order_too_large 0)
+
+-- the bytes written, with the number 26 where the listing takes more than were lent
+pub record Listed : Type 0 where
+  pub number : ℕ
+  pub length : ℕ
 
 abbrev pub listed_to : ℕ → ℕ → List ℕ → After Listed
 listed_to number end out = record { answer = record { number = number; length = end }; storage = out }

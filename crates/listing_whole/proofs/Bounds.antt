@@ -30,23 +30,21 @@ use Rattle.bed.specs.Bed as bed
 use Rattle.bed.specs.Bed.{Bed, bed_of, put_pixel, pixel_check, feed_pixels}
 use Rattle.bed.specs.Shown.{shown_bed}
 use Rattle.bed.proofs.BedLaws.{Good, pixel_check_passed, FedAlike, feed_pixels_alike}
-use Rattle.scan.specs.declared.Fed.{Fed}
 use Rattle.scan.specs.FreshScan.{fresh_of}
 use Rattle.scan_check.specs.Opening.{opening}
-use Rattle.scan.specs.Feed.{fed_to, feed_of}
+use Rattle.scan.specs.Feed.{Fed, fed_to, feed_of}
 use Rattle.decimal.specs.Decimal.{digits_most}
 use Rattle.decimal.proofs.DecimalLaws.{digits_by_below}
 use Rattle.decimal.proofs.LinesLaws.{pair_line_most, triple_line_length}
-use Rattle.listing.specs.declared.Listed.{Listed}
-use Rattle.listing.specs.Listing.{bed_word, tiles_word, stop_word, taken_word, bed_line, tile_line, tile_lines, stop_line, listed_order, listed_slots, row_fed, fed_listing, listing, listed_to, listed_in, list_of}
+use Rattle.listing.specs.Listing.{Listed, bed_word, tiles_word, stop_word, taken_word, bed_line, tile_line, tile_lines, stop_line, listed_order, listed_slots, row_fed, fed_listing, listing, listed_to, listed_in, list_of}
+use Rattle.listing.specs.Answers.{listed}
+use Rattle.std.specs.Prelude.{Result, Ok, Err}
+use Rattle.std.specs.Result.{result_unwrap_or}
+use Rattle.refusal.specs.declared.Refusal.{Refusal}
 use Rattle.listing_whole.specs.Whole.{input_bytes, listing_bytes, Whole}
 use Rattle.listing.proofs.LineLaws.{tile_lines_most}
 use Rattle.listing.proofs.LentLaws.{listed_in_room}
-
-fresh_of_accepted : (k : Kind) (n : ℕ) (slots : List ℕ) → n ≤ highest_order →
-    fresh_of k n slots ≡ record { answer = record { number = accepted; scan = scan_of k n 0 0 }; storage = replicate (length slots) 0 }
-unfolding fresh_of
-fresh_of_accepted k n slots h = unless_on _ _ _ (must_on order_too_large accepted (test_leb n highest_order) h)
+use Rattle.listing.proofs.ScannedLaws.{fresh_of_accepted}
 
 -- what is read: a feed goes no further than the first byte past the bed
 
@@ -181,3 +179,8 @@ module _ (read out new : List ℕ) (r : Listed) (h : length out ≡ listing_byte
         ap (λ (x : After Listed). listed_to accepted x.answer.length x.storage) (e ∙ room) ∙ sym room
         ∙ ap (λ (bytes : List ℕ). listed_in bytes out) (ap listing (sym d) ∙ listing_read input);
   }
+
+-- the length of a listing that code takes for 0 where it is refused
+pub listed_length : (r : Result ℕ Refusal) → result_unwrap_or r 0 ≡ (listed r).length
+listed_length (Ok l) = refl
+listed_length (Err r) = refl

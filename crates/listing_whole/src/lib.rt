@@ -17,6 +17,5 @@ pub fn list_whole(read: &[u8; INPUT_BYTES], count: usize, out: &mut [u8; LISTING
     ensures { Whole (take count read.now) out.old result out.new }
 {
     let bytes: &[u8] = read;
-    let listed = listing::list(&bytes[..count], out);
-    listed.length
+    listing::list(&bytes[..count], out).unwrap_or(0)
 }

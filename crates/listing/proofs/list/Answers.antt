@@ -1,43 +1,47 @@
--- `listing::list` meets its contract, by how far the input is taken; the list that the feed leaves fits the slots. Assumes nothing.
+-- By how far the input is taken; the list that the feed leaves fits the slots.
+use Rattle.std.proofs.Common.{◌∙◌, sym, ap, arith, ℕ, List, ◌∷◌, length, replicate}
 use lib.ListN.{length-replicate}
+use lib.Seq.{length-take-le}
 use Rattle.bed.specs.declared.Kind.TheVariants.{Rows}
-use Rattle.listing.specs.Listing.{listed_slots}
-use Rattle.listing.proofs.ScannedLaws.{fed_room, list_empty, list_large, list_scanned}
-use mathlib.Core.Path.{◌∙◌}
-use Prim.Native.Nat.{ℕ}
-use native.Mathlib.Omega.{arith}
-use lib.ListN.{get_or, replicate}
+use Rattle.listing.specs.Listing.{listed_slots, listed_in, list_of}
+use Rattle.listing.proofs.LineLaws.{lines_taken}
+use Rattle.listing.proofs.ScannedLaws.{fed_room, fresh_never, list_empty, list_large, list_scanned}
 use Rattle.listing.proofs.list.Goals as goal
 
-pub returns-then-input-eq0 : goal.returns-then-input-eq0
-returns-then-input-eq0 c =
-    let a = c.args in
-    c.write_stop.ensures ∙ list_empty a.input.now a.out.now (omega arith)
+pub returns-in_default : goal.returns-in_default
+returns-in_default c = rw c.without_bed.ensures at c.write.ensures ∙ list_empty c.args.input.now c.args.out.now c.in_default.ensures.cases
 
 pub returns-then-order-gt-LISTED_ORDER : goal.returns-then-order-gt-LISTED_ORDER
 returns-then-order-gt-LISTED_ORDER c =
-    let a = c.args in
-    c.write_stop-then-order-gt-LISTED_ORDER.ensures ∙ list_large a.input.now a.out.now (omega arith) (omega arith)
+    let out = c.args.out.now in
+    let accounts = c.in-Some.accounts.now in
+    let i = ap (λ (n : ℕ). n ∷ accounts) c.from-order.ensures ∙ sym c.in-Some.ensures.cases.0 in
+    rw c.without_bed-then-order-gt-LISTED_ORDER.ensures at c.write-then-order-gt-LISTED_ORDER.ensures
+    ∙ list_large c.from-order.result accounts out (omega (arith, c.if-order-gt-LISTED_ORDER.true))
+    ∙ ap (λ (input : List ℕ). list_of input out) i
+
+pub returns-in_err-fresh : goal.returns-in_err-fresh
+returns-in_err-fresh c = fresh_never Rows c.from-order.result _ _ c.in_err-fresh.field-0.0 (omega (arith, c.if-order-gt-LISTED_ORDER.false)) c.in_err-fresh.ensures
 
 pub returns : goal.returns
 returns c =
-    let a = c.args in
-    c.write_scanned.ensures
-    ∙ list_scanned a.input.now a.out.now
-    c.fresh_scan-fresh.result _
-    c.feed-fed.result _ (omega arith) (omega arith)
-    c.fresh_scan-fresh.ensures
-    c.feed-fed.ensures
+    let out = c.args.out.now in
+    let accounts = c.in-Some.accounts.now in
+    let fed = c.feed-end.result in
+    let left = c.feed-end.new.slots in
+    let i = ap (λ (n : ℕ). n ∷ accounts) c.from-order.ensures ∙ sym c.in-Some.ensures.cases.0 in
+    let h = fed_room Rows c.from-order.result (replicate listed_slots 0) accounts _ _ _ _ c.in_ok-fresh.ensures c.feed-end.ensures in
+    rw c.said.ensures at c.write-2.ensures
+    ∙ ap (λ (bytes : List ℕ). listed_in bytes out) (lines_taken fed.scan.order fed.scan.tiles left _ fed.taken (omega (arith, h.0, h.1)))
+    ∙ list_scanned c.from-order.result accounts out _ _ _ _ (omega (arith, c.if-order-gt-LISTED_ORDER.false)) c.in_ok-fresh.ensures c.feed-end.ensures
+    ∙ ap (λ (input : List ℕ). list_of input out) i
 
-pub overflow_cast-order : goal.overflow_cast-order
-overflow_cast-order c = omega (arith, c.shared_slice_known-1.given 0)
+pub slice_bounds-slots-end : goal.slice_bounds-slots-end
+slice_bounds-slots-end c =
+    let h = fed_room Rows c.from-order.result (replicate listed_slots 0) c.in-Some.accounts.now _ _ _ _ c.in_ok-fresh.ensures c.feed-end.ensures in
+    omega (arith, h.0, h.1)
 
-pub write_scanned-requires : goal.write_scanned-requires
-write_scanned-requires c =
-    let fresh-scan = c.fresh_scan-fresh in
-    let feed = c.feed-fed in
-    let a = c.args in
-    let h = fed_room Rows (get_or a.input.now 0 0) (replicate listed_slots 0) _ fresh-scan.result _ feed.result _ fresh-scan.ensures
-    feed.ensures in
-    let l = length-replicate {A = ℕ} listed_slots 0 in
-    (omega (arith, h.0, h.1), omega (arith, h.0, l))
+pub slice_bounds-bed-end : goal.slice_bounds-bed-end
+slice_bounds-bed-end c =
+    let h = fed_room Rows c.from-order.result (replicate listed_slots 0) c.in-Some.accounts.now _ _ _ _ c.in_ok-fresh.ensures c.feed-end.ensures in
+    sym (length-take-le c.feed-end.result.scan.tiles c.feed-end.new.slots (omega (arith, h.0, h.1)))

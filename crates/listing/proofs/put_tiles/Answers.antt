@@ -1,30 +1,24 @@
--- `listing::put_tiles` meets its contract. The loop's invariant: the lines of the first i tiles are put, at most `triple_most` bytes for each. Assumes nothing.
+-- The lines of the tiles ahead are put, at most `triple_most` bytes for each.
+use Rattle.std.proofs.Common.{◌≡◌, arith, length, get_or}
 use Rattle.tile.specs.Tile.{tile_of}
 use Rattle.listing.proofs.LineLaws.{tile_line_most, lines_none, lines_next}
-use mathlib.Core.Path.{◌≡◌}
-use native.Mathlib.Omega.{arith}
-use lib.ListN.{get_or}
 use Rattle.listing.proofs.put_tiles.Goals as goal
 
-pub loop-i-init : goal.loop-i-init
-loop-i-init c = (omega arith, lines_none c.args.slots.now c.args.at c.args.out.now, omega arith)
+pub loop-word-init : goal.loop-word-init
+loop-word-init c = record { lines = lines_none c.args.words.now c.args.writer.now; room = omega arith }
 
-pub put_word-place-requires : goal.put_word-place-requires
-put_word-place-requires c = omega arith
-
-pub loop-i-preserved : goal.loop-i-preserved
-loop-i-preserved c =
-    let l = c.loop-i in
-    let a = c.args in
-    let put_word = c.put_word-place in (
-      omega arith,
-      lines_next a.slots.now l.i (omega arith) l.invariant.1 put_word.ensures,
-      omega (
-        arith,
-        put_word.ensures.stop,
-        tile_line_most (tile_of (get_or a.slots.now l.i 0)),
-      ),
-    )
+pub loop-word-preserved : goal.loop-word-preserved
+loop-word-preserved c =
+    let l = c.loop-word in
+    let ws = c.args.words.now in
+    let v = rw c.from.ensures at c.put_tile.ensures in
+    record {
+      lines = lines_next ws l.word-index (omega arith) l.invariant.lines v;
+      room = omega (arith, v.put.stop, l.invariant.room, tile_line_most (tile_of (get_or ws l.word-index 0)));
+    }
 
 pub returns : goal.returns
-returns c = let e : c.loop-i.i ≡ c.args.tiles = omega arith in rw e at c.loop-i.invariant.1
+returns c = let e : c.loop-word.word-index ≡ length c.args.words.now = omega arith in rw e at c.loop-word.invariant.lines
+
+pub put_tile-requires : goal.put_tile-requires
+put_tile-requires c = omega (arith, c.loop-word.invariant.room)
