@@ -5,19 +5,18 @@
 --     list_empty, list_large, list_scanned   the offered call, by how far its input is taken
 use mathlib.Core.Path.{◌≡◌, refl, ap, sym, ◌∙◌}
 use mathlib.Core.List.{List, [], ◌∷◌}
-use Prim.Native.Nat.{ℕ, suc, ◌-◌, ◌≤◌, ◌<◌}
+use Prim.Native.Nat.{ℕ, ◌≤◌, ◌<◌}
 use native.Mathlib.Omega.{arith}
-use lib.ListN.{length, take, drop, get_or, replicate}
-use lib.Seq.{take_all}
+use lib.ListN.{length, replicate}
 use Rattle.basics.proofs.Tests.{test_leb}
 use Rattle.basics.proofs.ChoiceLaws.{if_yes, if_no}
 use Rattle.refusal.specs.Refusal.{accepted, order_too_large, file_cut_short}
-use Rattle.refusal.specs.Checks.{must, After}
+use Rattle.refusal.specs.Checks.{After}
 use Rattle.refusal.specs.declared.Refusal.{Refusal}
 use Rattle.refusal.proofs.CheckLaws.{must_on, unless_on}
 use Rattle.refusal.proofs.RefusedLaws.{number_some}
 use Rattle.tile.specs.Tile.{highest_order}
-use Rattle.std.specs.Prelude.{leb, Err}
+use Rattle.std.specs.Prelude.{Err}
 use Rattle.bed.specs.declared.Kind.{Kind}
 use Rattle.bed.specs.declared.Kind.TheVariants.{Rows}
 use Rattle.bed.specs.Places.{scan_of}

@@ -12,7 +12,7 @@ use Rattle.basics.proofs.Tests.{test_leb}
 use Rattle.basics.proofs.ChoiceLaws.{if_yes, if_no, by_if}
 use Rattle.refusal.specs.Refusal.{accepted, order_too_large, file_cut_short}
 use Rattle.refusal.specs.Checks.{After}
-use Rattle.refusal.proofs.CheckLaws.{must_on, unless_on, by_unless, unless_alike}
+use Rattle.refusal.proofs.CheckLaws.{by_unless, unless_alike}
 use Rattle.tile.specs.declared.Tile.{Tile}
 use Rattle.tile.specs.Tile.{highest_order, highest_account}
 use Rattle.tile.specs.Slots.{tiles_in, filled}
@@ -22,7 +22,6 @@ use Rattle.quadtree.specs.Quadtree.{quadtree}
 use Rattle.quadtree.proofs.Alignment.{area_mono}
 use Rattle.quadtree.proofs.Blocks.{blank_quadtree}
 use Rattle.quadtree.proofs.Linear.{quadtree_largest, quadtree_low}
-use Rattle.bed.specs.declared.Kind.{Kind}
 use Rattle.bed.specs.declared.Kind.TheVariants.{Rows}
 use Rattle.bed.specs.declared.Scan.{Scan}
 use Rattle.bed.specs.Places.{scan_of}
@@ -30,7 +29,6 @@ use Rattle.bed.specs.Bed as bed
 use Rattle.bed.specs.Bed.{Bed, bed_of, put_pixel, pixel_check, feed_pixels}
 use Rattle.bed.specs.Shown.{shown_bed}
 use Rattle.bed.proofs.BedLaws.{Good, pixel_check_passed, FedAlike, feed_pixels_alike}
-use Rattle.scan.specs.FreshScan.{fresh_of}
 use Rattle.scan_check.specs.Opening.{opening}
 use Rattle.scan.specs.Feed.{Fed, fed_to, feed_of}
 use Rattle.decimal.specs.Decimal.{digits_most}

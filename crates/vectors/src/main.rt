@@ -43,7 +43,12 @@ fn looked_up(rt: &HostRuntime, words: &str, scan: Scan, slots: &[u32], point: Po
         Ok(Tile { account, .. }) => account,
         Err(_) => 0,
     };
-    line(rt, words, refusal::said(&found) as usize, usize::from(account));
+    line(
+        rt,
+        words,
+        refusal::said(&found) as usize,
+        usize::from(account),
+    );
 }
 
 // "On M column 3 passes, 4 gives 31."
@@ -75,13 +80,21 @@ fn parts(rt: &HostRuntime, scan: Scan, slots: &[u32]) {
         one.len(),
         one.first().copied().unwrap_or(0) as usize,
     );
-    let place = Block { corner: 12, size: 0 };
+    let place = Block {
+        corner: 12,
+        size: 0,
+    };
     let empty = part::quadrant_slice(order, tiles, slots, place);
     let position = match part::quadrant_part(order, tiles, slots, place) {
         Ok(part) => part.position,
         Err(_) => 0,
     };
-    line(rt, "M, quadrant 12, size 0: tiles, position", empty.len(), position);
+    line(
+        rt,
+        "M, quadrant 12, size 0: tiles, position",
+        empty.len(),
+        position,
+    );
     let none = Block { corner: 1, size: 1 };
     let refused = part::quadrant_slice(order, tiles, slots, none);
     line(
@@ -96,7 +109,11 @@ fn parts(rt: &HostRuntime, scan: Scan, slots: &[u32]) {
 fn account(rt: &HostRuntime, words: &str, accounts: &[u8]) {
     let mut slots = [0u32; 1];
     if let Ok(fresh) = scan::fresh_scan(Kind::Rows, 0, &mut slots) {
-        let Fed { end, taken, scan: _ } = scan::feed(fresh, &mut slots, accounts);
+        let Fed {
+            end,
+            taken,
+            scan: _,
+        } = scan::feed(fresh, &mut slots, accounts);
         line(rt, words, refusal::said(&end) as usize, taken);
     }
 }

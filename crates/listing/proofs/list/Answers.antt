@@ -1,6 +1,5 @@
 -- By how far the input is taken; the list that the feed leaves fits the slots.
-use Rattle.std.proofs.Common.{◌∙◌, sym, ap, arith, ℕ, List, ◌∷◌, length, replicate}
-use lib.ListN.{length-replicate}
+use Rattle.std.proofs.Common.{◌∙◌, sym, ap, arith, ℕ, List, ◌∷◌, replicate}
 use lib.Seq.{length-take-le}
 use Rattle.bed.specs.declared.Kind.TheVariants.{Rows}
 use Rattle.listing.specs.Listing.{listed_slots, listed_in, list_of}
