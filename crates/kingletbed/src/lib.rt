@@ -5,9 +5,9 @@
 ghost use Rattle.std.specs.Prelude.{◌≡◌, ℕ};
 ghost use Rattle.refusal.specs.Checks.{Gives};
 ghost use Rattle.tile.specs.Tile.{tile_of};
+ghost use Rattle.bed.specs.Kinds.{kind_of};
 ghost use Rattle.bed.specs.Places.{scan_of};
 ghost use Rattle.points.specs.Points.{extent_of, number_of, around_of, point_of};
-ghost use Rattle.mils.specs.declared.PutText.{PutText};
 ghost use Rattle.mils.specs.Calls.{pixel_of, hundredths_of, text_of};
 ghost use Rattle.list_check.specs.ListCheck.{list_check};
 ghost use Rattle.scan.specs.FreshScan.{fresh_of};
@@ -17,32 +17,32 @@ ghost use Rattle.lookup.specs.Lookup.{lookup_of};
 ghost use Rattle.part.specs.Part.{part_of};
 ghost use Rattle.table.specs.Load.{load_of};
 ghost use Rattle.rights.specs.Rights.{rights_of};
-ghost use Rattle.claim.specs.declared.Claimed.{Claimed};
 ghost use Rattle.claim.specs.Claim.{claim_of};
 ghost use Rattle.claim.specs.Preview.{preview_of};
-ghost use Rattle.combine.specs.declared.Combined.{Combined};
+ghost use Rattle.combine_rule.specs.Choices.{choice_of};
 ghost use Rattle.combine.specs.Combine.{combine_of};
-ghost use Rattle.mapfile_write.specs.declared.Written.{Written};
 ghost use Rattle.mapfile_write.specs.Writer.{write_of};
-ghost use Rattle.mapfile_read.specs.declared.Reading.{Reading};
 ghost use Rattle.mapfile_read.specs.Reader.{read_of};
-ghost use Rattle.kingletbed.specs.Exports.{kind_of, kind_number, choice_of, fresh_numbers, fed_numbers};
+ghost use Rattle.kingletbed.specs.Exports.{fresh_export, feed_export, fresh_numbers, fed_numbers};
 
-use bed::{Kind, Scan};
-use claim::Claimed;
-use combine::Combined;
+use bed::{Kind, Point, Scan};
+use claim::ClaimAnswer;
+use combine::CombineAnswer;
 use combine_rule::Choice;
-use lookup::Found;
-use mapfile_read::Reading;
-use mapfile_write::Written;
-use mils::{Hundredths, Pixel, PutText};
-use part::Part;
-use points::{Around, Extent, Numbered, Point};
-use rights::Right;
+use lookup::LookupAnswer;
+use mapfile_read::ReadAnswer;
+use mapfile_write::WriteAnswer;
+use mils::{HundredthsAnswer, PixelAnswer, TextAnswer};
+use part::PartAnswer;
+use points::{BlockAnswer, ExtentAnswer, MortonAnswer, PointAnswer};
+use refusal::Refusal;
+use rights::RightAnswer;
+use scan::Fed;
+use tile::{Block, Tile};
 
 // A fresh scan's answer, with the record's four numbers.
 #[repr(C)]
-#[derive(Clone, Copy)]
+#[derive(Clone, Copy, Debug, PartialEq, Eq)]
 pub struct FreshAnswer {
     pub number: u32,
     pub kind: u32,
@@ -51,9 +51,23 @@ pub struct FreshAnswer {
     pub tiles: usize,
 }
 
+// The answer to what was asked for a kind: refused, the record is of that kind, and its numbers are 0.
+fn fresh_answer(kind: Kind, fresh: Result<Scan, Refusal>) -> FreshAnswer
+    ensures { result ≡ fresh_export kind fresh }
+{
+    let scan = fresh.unwrap_or(Scan::fresh(kind, 0));
+    FreshAnswer {
+        number: refusal::said(&fresh),
+        kind: u32::from(scan.kind),
+        order: scan.order,
+        pixels: scan.pixels,
+        tiles: scan.tiles,
+    }
+}
+
 // A feed's answer, with the new record's four numbers.
 #[repr(C)]
-#[derive(Clone, Copy)]
+#[derive(Clone, Copy, Debug, PartialEq, Eq)]
 pub struct FeedAnswer {
     pub number: u32,
     pub taken: usize,
@@ -63,70 +77,58 @@ pub struct FeedAnswer {
     pub tiles: usize,
 }
 
-fn kind_of(kind: u32) -> Kind
-    ensures { result ≡ kind_of kind }
-{
-    if kind == 0 {
-        return Kind::Rows;
+impl From<Fed> for FeedAnswer {
+    ghost from_gives = { λ fed answer. answer ≡ feed_export fed };
+
+    fn from(fed: Fed) -> FeedAnswer {
+        FeedAnswer {
+            number: refusal::said(&fed.end),
+            taken: fed.taken,
+            kind: u32::from(fed.scan.kind),
+            order: fed.scan.order,
+            pixels: fed.scan.pixels,
+            tiles: fed.scan.tiles,
+        }
     }
-    Kind::Morton
 }
 
 fn scan_of(kind: u32, order: u32, pixels: u32, tiles: usize) -> Scan
     ensures { result ≡ scan_of (kind_of kind) order pixels tiles }
 {
     Scan {
-        kind: kind_of(kind),
+        kind: Kind::from(kind),
         order,
         pixels,
         tiles,
     }
 }
 
-fn kind_number(kind: Kind) -> u32
-    ensures { result ≡ kind_number kind }
-{
-    match kind {
-        Kind::Rows => 0,
-        Kind::Morton => 1,
-    }
-}
-
-fn choice_of(choice: u32) -> Choice
-    ensures { result ≡ choice_of choice }
-{
-    if choice == 0 {
-        return Choice::Inside;
-    }
-    Choice::Outside
-}
-
 #[unsafe(no_mangle)]
-pub extern "C" fn kb_extent(order: u32) -> Extent
+pub extern "C" fn kb_extent(order: u32) -> ExtentAnswer
     ensures { result ≡ extent_of order }
 {
-    points::measure(order)
+    ExtentAnswer::from(points::measure(order))
 }
 
 #[unsafe(no_mangle)]
-pub extern "C" fn kb_morton(order: u32, column: u32, row: u32) -> Numbered
+pub extern "C" fn kb_morton(order: u32, column: u32, row: u32) -> MortonAnswer
     ensures { result ≡ number_of order column row }
 {
-    points::number_at(order, column, row)
+    MortonAnswer::from(points::number_at(order, Point { column, row }))
 }
 
 #[unsafe(no_mangle)]
-pub extern "C" fn kb_block(order: u32, column: u32, row: u32, size: u32) -> Around
+pub extern "C" fn kb_block(order: u32, column: u32, row: u32, size: u32) -> BlockAnswer
     ensures { result ≡ around_of order column row size }
 {
-    points::block_around(order, column, row, size)
+    BlockAnswer::from(points::block_around(order, Point { column, row }, size))
 }
 
 #[unsafe(no_mangle)]
-pub extern "C" fn kb_point(order: u32, morton: u32) -> Point
+pub extern "C" fn kb_point(order: u32, morton: u32) -> PointAnswer
     ensures { result ≡ point_of order morton }
 {
-    points::point_of(order, morton)
+    PointAnswer::from(points::point_of(order, morton))
 }
 
 #[unsafe(no_mangle)]
@@ -154,31 +156,15 @@ pub extern "C" fn kb_tile_account(word: u32) -> u8
 pub extern "C" fn kb_check(order: u32, tiles: usize, slots: &[u32]) -> u32
     ensures { result ≡ list_check order tiles slots.now }
 {
-    // The first words are checked in place: a call would cost more.
-    let number = list_check::check_head(order, tiles, slots);
-    if number != refusal::ACCEPTED {
-        return number;
-    }
-    if tiles <= list_check::HEAD {
-        return refusal::ACCEPTED;
-    }
-    list_check::check_words(order, list_check::HEAD, &slots[..tiles])
+    refusal::said(&list_check::check_in_place(order, tiles, slots))
 }
 
 #[unsafe(no_mangle)]
 pub extern "C" fn kb_fresh(kind: u32, order: u32, slots: &mut [u32]) -> FreshAnswer
     ensures { Gives result slots.new (fresh_numbers (fresh_of (kind_of kind) order slots.old)) }
 {
-    let fresh = scan::fresh_scan(kind_of(kind), order, slots);
-    let scan = fresh.scan;
-    let kind = scan.kind;
-    FreshAnswer {
-        number: fresh.number,
-        kind: kind_number(kind),
-        order: scan.order,
-        pixels: scan.pixels,
-        tiles: scan.tiles,
-    }
+    let kind = Kind::from(kind);
+    fresh_answer(kind, scan::fresh_scan(kind, order, slots))
 }
 
 #[unsafe(no_mangle)]
@@ -194,24 +180,14 @@ pub extern "C" fn kb_feed(
         (feed_of (scan_of (kind_of kind) order pixels tiles) slots.old accounts.now)) }
 {
     let scan = scan_of(kind, order, pixels, tiles);
-    let fed = scan::feed(scan, slots, accounts);
-    let next = fed.scan;
-    let next_kind = next.kind;
-    FeedAnswer {
-        number: fed.number,
-        taken: fed.taken,
-        kind: kind_number(next_kind),
-        order: next.order,
-        pixels: next.pixels,
-        tiles: next.tiles,
-    }
+    FeedAnswer::from(scan::feed(scan, slots, accounts))
 }
 
 #[unsafe(no_mangle)]
 pub extern "C" fn kb_decode(order: u32, tiles: usize, slots: &[u32], raster: &mut [u8]) -> u32
     ensures { Gives result raster.new (decode_of order tiles slots.now raster.old) }
 {
-    decode::decode(order, tiles, slots, raster)
+    refusal::said(&decode::decode(order, tiles, slots, raster))
 }
 
 #[unsafe(no_mangle)]
@@ -223,25 +199,25 @@ pub extern "C" fn kb_lookup(
     slots: &[u32],
     column: u32,
     row: u32,
-) -> Found
+) -> LookupAnswer
     ensures { result ≡ lookup_of (scan_of (kind_of kind) order pixels tiles) slots.now column row }
 {
     let scan = scan_of(kind, order, pixels, tiles);
-    lookup::lookup(scan, slots, column, row)
+    LookupAnswer::from(lookup::lookup(scan, slots, Point { column, row }))
 }
 
 #[unsafe(no_mangle)]
-pub extern "C" fn kb_part(order: u32, tiles: usize, slots: &[u32], corner: u32, size: u32) -> Part
+pub extern "C" fn kb_part(order: u32, tiles: usize, slots: &[u32], corner: u32, size: u32) -> PartAnswer
     ensures { result ≡ part_of order tiles slots.now corner size }
 {
-    part::quadrant_part(order, tiles, slots, corner, size)
+    PartAnswer::from(part::quadrant_part(order, tiles, slots, Block { corner, size }))
 }
 
 #[unsafe(no_mangle)]
 pub extern "C" fn kb_load(file: &[u8], table: &mut [u8]) -> u32
     ensures { Gives result table.new (load_of file.now table.old) }
 {
-    table::load(file, table)
+    refusal::said(&table::load(file, table))
 }
 
 #[unsafe(no_mangle)]
@@ -255,12 +231,12 @@ pub extern "C" fn kb_rights(
     column: u32,
     row: u32,
     account: u8,
-) -> Right
+) -> RightAnswer
     ensures { result ≡ rights_of table.now (scan_of (kind_of kind) order pixels tiles) slots.now
         column row account }
 {
     let scan = scan_of(kind, order, pixels, tiles);
-    rights::rights(table, scan, slots, column, row, account)
+    RightAnswer::from(rights::rights(table, scan, slots, Point { column, row }, account))
 }
 
 #[unsafe(no_mangle)]
@@ -273,12 +249,17 @@ pub extern "C" fn kb_claim(
     corner: u32,
     size: u32,
     account: u8,
-) -> Claimed
+) -> ClaimAnswer
     ensures { Gives result slots.new
         (claim_of (scan_of (kind_of kind) order pixels tiles) slots.old corner size account) }
 {
     let scan = scan_of(kind, order, pixels, tiles);
-    claim::claim(scan, slots, corner, size, account)
+    let tile = Tile {
+        corner,
+        size,
+        account,
+    };
+    ClaimAnswer::from(claim::claim(scan, slots, tile))
 }
 
 #[unsafe(no_mangle)]
@@ -291,12 +272,17 @@ pub extern "C" fn kb_preview(
     corner: u32,
     size: u32,
     account: u8,
-) -> Claimed
+) -> ClaimAnswer
     ensures { result ≡ preview_of (scan_of (kind_of kind) order pixels tiles) slots.now
         corner size account }
 {
     let scan = scan_of(kind, order, pixels, tiles);
-    claim::preview(scan, slots, corner, size, account)
+    let tile = Tile {
+        corner,
+        size,
+        account,
+    };
+    ClaimAnswer::from(claim::preview(scan, slots, tile))
 }
 
 #[unsafe(no_mangle)]
@@ -309,12 +295,12 @@ pub extern "C" fn kb_combine(
     tiles2: usize,
     slots2: &[u32],
     out: &mut [u32],
-) -> Combined
+) -> CombineAnswer
     ensures { Gives result out.new (combine_of (choice_of choice) order1 tiles1 slots1.now
         order2 tiles2 slots2.now out.old) }
 {
-    let choice = choice_of(choice);
-    combine::combine(choice, order1, tiles1, slots1, order2, tiles2, slots2, out)
+    let choice = Choice::from(choice);
+    CombineAnswer::from(combine::combine(choice, order1, tiles1, slots1, order2, tiles2, slots2, out))
 }
 
 #[unsafe(no_mangle)]
@@ -325,38 +311,38 @@ pub extern "C" fn kb_write(
     tiles: usize,
     slots: &[u32],
     file: &mut [u8],
-) -> Written
+) -> WriteAnswer
     ensures { Gives result file.new
         (write_of (scan_of (kind_of kind) order pixels tiles) slots.now file.old) }
 {
     let scan = scan_of(kind, order, pixels, tiles);
-    mapfile_write::write(scan, slots, file)
+    WriteAnswer::from(mapfile_write::write(scan, slots, file))
 }
 
 #[unsafe(no_mangle)]
-pub extern "C" fn kb_read(file: &[u8], slots: &mut [u32]) -> Reading
+pub extern "C" fn kb_read(file: &[u8], slots: &mut [u32]) -> ReadAnswer
     ensures { Gives result slots.new (read_of file.now slots.old) }
 {
-    mapfile_read::read(file, slots)
+    ReadAnswer::from(mapfile_read::read(file, slots))
 }
 
 #[unsafe(no_mangle)]
-pub extern "C" fn kb_mils_pixel(order: u32, text: &[u8]) -> Pixel
+pub extern "C" fn kb_mils_pixel(order: u32, text: &[u8]) -> PixelAnswer
     ensures { result ≡ pixel_of order text.now }
 {
-    mils::pixel_of(order, text)
+    PixelAnswer::from(mils::pixel_of(order, text))
 }
 
 #[unsafe(no_mangle)]
-pub extern "C" fn kb_mils_h(order: u32, pixel: u32) -> Hundredths
+pub extern "C" fn kb_mils_h(order: u32, pixel: u32) -> HundredthsAnswer
     ensures { result ≡ hundredths_of order pixel }
 {
-    mils::hundredths_of(order, pixel)
+    HundredthsAnswer::from(mils::hundredths_of(order, pixel))
 }
 
 #[unsafe(no_mangle)]
-pub extern "C" fn kb_mils_text(order: u32, pixel: u32, text: &mut [u8]) -> PutText
+pub extern "C" fn kb_mils_text(order: u32, pixel: u32, text: &mut [u8]) -> TextAnswer
     ensures { Gives result text.new (text_of order pixel text.old) }
 {
-    mils::text_of(order, pixel, text)
+    TextAnswer::from(mils::text_of(order, pixel, text))
 }
