@@ -1,3 +1,1 @@
--- Laws of the exports.
---     ExportLaws   the exports' answers, from those of the calls
-pub mod ExportLaws
+-- No laws of its own.

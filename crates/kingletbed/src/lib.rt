@@ -207,7 +207,13 @@ pub extern "C" fn kb_lookup(
 }
 
 #[unsafe(no_mangle)]
-pub extern "C" fn kb_part(order: u32, tiles: usize, slots: &[u32], corner: u32, size: u32) -> PartAnswer
+pub extern "C" fn kb_part(
+    order: u32,
+    tiles: usize,
+    slots: &[u32],
+    corner: u32,
+    size: u32,
+) -> PartAnswer
     ensures { result ≡ part_of order tiles slots.now corner size }
 {
     PartAnswer::from(part::quadrant_part(order, tiles, slots, Block { corner, size }))
@@ -300,7 +306,9 @@ pub extern "C" fn kb_combine(
         order2 tiles2 slots2.now out.old) }
 {
     let choice = Choice::from(choice);
-    CombineAnswer::from(combine::combine(choice, order1, tiles1, slots1, order2, tiles2, slots2, out))
+    CombineAnswer::from(combine::combine(
+        choice, order1, tiles1, slots1, order2, tiles2, slots2, out,
+    ))
 }
 
 #[unsafe(no_mangle)]

@@ -1,5 +1,0 @@
--- The call's own contract, of the record that the numbers give.
-use Rattle.kingletbed.proofs.kb_rights.Goals as goal
-
-pub returns : goal.returns
-returns c = rw c.scan_of-scan.ensures at c.rights.ensures
