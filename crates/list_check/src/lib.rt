@@ -202,8 +202,9 @@ fn words_of(order: u32, tiles: usize, slots: &[u32]) -> Result<&[u32], Refusal>
     Ok(&slots[..tiles])
 }
 
-// Checks 1 and 2, and those of the head: small enough to become part of its callers, so that short lists, and long ones
-// that are refused near the front, are spared a call.
+// Checks 1 and 2, and those of the head: part of its callers, so that short lists, and long ones that are refused near
+// the front, are spared a call.
+#[inline(always)]
 pub fn check_head(order: u32, tiles: usize, slots: &[u32]) -> Checked
     ensures { Begun order tiles slots.now (said result) }
 {
@@ -247,7 +248,8 @@ pub fn check(order: u32, tiles: usize, slots: &[u32]) -> Result<Quadtree<'_>, Re
     Ok(Quadtree { order, words })
 }
 
-// The same, with the first words checked in place: for calls on short lists, where a call would cost more.
+// The same, with the first words checked in place, where a call would cost more: docs/DECISIONS.md, A19.
+#[inline(always)]
 pub fn check_in_place(order: u32, tiles: usize, slots: &[u32]) -> Result<Quadtree<'_>, Refusal>
     ensures number { said result ≡ list_check order tiles slots.now }
     ensures tree { IfOk result (λ q. (q.order ≡ order) × (q.words.now ≡ take tiles slots.now)) }
