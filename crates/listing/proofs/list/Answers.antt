@@ -19,9 +19,6 @@ returns-then-order-gt-LISTED_ORDER c =
     ∙ list_large c.from-order.result accounts out (omega (arith, c.if-order-gt-LISTED_ORDER.true))
     ∙ ap (λ (input : List ℕ). list_of input out) i
 
-pub returns-in_err-fresh : goal.returns-in_err-fresh
-returns-in_err-fresh c = fresh_never Rows c.from-order.result _ _ c.in_err-fresh.field-0.0 (omega (arith, c.if-order-gt-LISTED_ORDER.false)) c.in_err-fresh.ensures
-
 pub returns : goal.returns
 returns c =
     let out = c.args.out.now in
@@ -44,3 +41,6 @@ pub slice_bounds-bed-end : goal.slice_bounds-bed-end
 slice_bounds-bed-end c =
     let h = fed_room Rows c.from-order.result (replicate listed_slots 0) c.in-Some.accounts.now _ _ _ _ c.in_ok-fresh.ensures c.feed-end.ensures in
     sym (length-take-le c.feed-end.result.scan.tiles c.feed-end.new.slots (omega (arith, h.0, h.1)))
+
+pub returns-in_err-fresh : goal.returns-in_err-fresh
+returns-in_err-fresh c = fresh_never Rows c.from-order.result _ _ c.in_err-fresh.field-0.0 (omega (arith, c.if-order-gt-LISTED_ORDER.false)) c.in_err-fresh.ensures
