@@ -20,9 +20,9 @@ use Rattle.bed.specs.Bed as bed
 use Rattle.bed.specs.Bed.{Bed, bed_of, fresh_bed, feed_bed, claimed, claim_bed_check}
 use Rattle.scan.specs.FreshScan.{Fresh, fresh_of}
 use Rattle.scan.specs.Feed.{Fed, feed_of}
-use Rattle.claim.specs.declared.Claimed.{Claimed}
+use Rattle.claim.specs.declared.ClaimAnswer.{ClaimAnswer}
 use Rattle.claim.specs.Claim.{claim_of}
-use Rattle.mapfile_read.specs.declared.Reading.{Reading}
+use Rattle.mapfile_read.specs.declared.ReadAnswer.{ReadAnswer}
 use Rattle.mapfile_read.specs.Reader.{read_of, read_bed, file_check}
 
 pub data Call : Type 0 where
@@ -59,7 +59,7 @@ after_feed r = record {
   state = record { scan = r.answer.scan; slots = r.storage };
 }
 
-unfoldable pub after_claim : Scan → After Claimed → Step
+unfoldable pub after_claim : Scan → After ClaimAnswer → Step
 after_claim c r = record {
   answer = answer r.answer.number 0;
   state = record {
@@ -69,7 +69,7 @@ after_claim c r = record {
   };
 }
 
-unfoldable pub after_read : Scan → After Reading → Step
+unfoldable pub after_read : Scan → After ReadAnswer → Step
 after_read c r = record {
   answer = answer r.answer.number 0;
   state = record {
