@@ -224,7 +224,9 @@ fn check_unknown(order: u32, known: usize, words: &[u32]) -> Checked
 }
 
 // The words of a list, of which the first `known` are known to pass. Callers make the slice for it, which is faster
-// than to hand one on: docs/DECISIONS.md, A19.
+// than to hand one on, and the hints keep it out of the way of short lists: docs/DECISIONS.md, A19.
+#[cold]
+#[inline(never)]
 pub fn check_words(order: u32, known: usize, words: &[u32]) -> Checked
     requires { (order ≤ highest_order) × (known ≤ length words.now) × FrontPasses order words.now known }
     ensures { said result ≡ words_check order [] words.now }
