@@ -97,6 +97,7 @@ impl<'a> Roster<'a> {
     }
 
     // The roster section into its part of a file: the count of the entries, and behind it the entries by rising account.
+    // The place moves by hand, since only an account that has tiles takes 5 bytes.
     pub fn put(&self, section: &mut [u8])
         requires { roster_length (length (roster_of (map tile_of self.now.words.now))) ≤ length section.old }
         ensures { section.new ≡ sets section.old 0 (roster_bytes (roster_of (map tile_of self.now.words.now))) }
