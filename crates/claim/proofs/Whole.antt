@@ -1,5 +1,6 @@
 -- A claim as a whole: how it ends by its plan, the stores and what they leave.
 --     tree_claimable, tree_known   what the checked list is
+--     ends_refused, ends_fits   the ways that a claim ends
 --     Bounds ..             the numbers of a plan, which `bounds` gives
 --     known_drawn           what is written fits
 --     known_few             25
@@ -14,6 +15,10 @@ use lib.ListN.{length, take, drop, replicate, length-append, length-map}
 use lib.Seq.{slice, take-take, length-take-le, take-append-add}
 use Rattle.basics.proofs.Tests.{test_leb}
 use Rattle.refusal.specs.Refusal.{accepted, slots_exceeded}
+use Rattle.std.specs.Prelude.{Result, Ok, Err}
+use Rattle.refusal.specs.declared.Refusal.{Refusal}
+use Rattle.refusal.specs.Refused.{number}
+use Rattle.refusal.proofs.RefusedLaws.{number_some}
 use Rattle.refusal.specs.Checks.{After}
 use Rattle.refusal.proofs.CheckLaws.{must_on, must_off}
 use Rattle.tile.specs.declared.Tile.{Tile}
@@ -34,7 +39,7 @@ use Rattle.claim_store.specs.Stores.{Drawn, RoomMade}
 use Rattle.claim.specs.declared.ClaimAnswer.{ClaimAnswer}
 use Rattle.claim.specs.Claim.{claim_refusal, claim_of}
 use Rattle.claim.specs.Preview.{preview_of}
-use Rattle.claim.specs.Outcome.{plan_check, Known}
+use Rattle.claim.specs.Outcome.{plan_check, Known, Ends}
 use Rattle.basics.proofs.MapLaws.{take_map, drop_map}
 use Rattle.claim.proofs.Refusals.{checked_claimable, claim_of_done, refusal_passed}
 use Rattle.claim.proofs.PreviewLaws.{claim_preview}
@@ -50,6 +55,14 @@ module _ (scan : Scan) (s : List ℕ) (c k a : ℕ) {o : ℕ} {ws : List ℕ} (e
 
   pub tree_known : {p : Planned} → Plans o (map tile_of ws) c k a p → Known scan s c k a p
   tree_known h = let l = checked_claimable scan s c k a (sym e) in record { passed = sym e; room = l.0; claimable = l.1; planned = rw (q.0, tree_tiles) at h }
+
+-- a claim that ends in a refusal, or with a plan
+module _ (scan : Scan) (s : List ℕ) (c k a : ℕ) {x : Result Planned Refusal} where
+  pub ends_refused : {r : Refusal} → x ≡ Err r → Ends scan s c k a x → (number r ≡ accepted → ⊥) × (claim_refusal scan s c k a ≡ number r)
+  ends_refused {r = r} e h = let z = number_some r in (λ y. omega (arith, y), rw e at h)
+
+  pub ends_fits : {p : Planned} → x ≡ Ok p → Ends scan s c k a x → Known scan s c k a p × (p.tiles ≤ length s)
+  ends_fits e h = rw e at h
 
 pub record Bounds (length t a : ℕ) (p : Planned) : Type 0 where
   pub order : p.change.lo ≤ p.change.hi
