@@ -1,12 +1,10 @@
 // The writer of a map file.
 #![tactic(auto)]
 
-ghost use Rattle.std.specs.Prelude.{◌≡◌, List, ℕ, ◌≤◌, IfOk, length, take};
+ghost use Rattle.std.specs.Prelude.{◌≡◌, ◌≤◌, IfOk, length, take};
 ghost use Rattle.std.proofs.lemmas.List.Edits.{sets};
-ghost use Rattle.refusal.specs.Refusal.{accepted};
 ghost use Rattle.refusal.specs.Checks.{Gives};
 ghost use Rattle.refusal.specs.Refused.{said};
-ghost use Rattle.bed.specs.declared.Scan.{Scan};
 ghost use Rattle.tile.specs.Slots.{tiles};
 ghost use Rattle.mapfile_bytes.specs.Layout.{file_length};
 ghost use Rattle.mapfile_roster.specs.Roster.{roster_of};
@@ -66,14 +64,12 @@ fn ready(scan: Scan, slots: &[u32]) -> Result<Quadtree<'_>, Refusal>
     Ok(tree)
 }
 
-// Writes the file of the list of a scan that is ready: 26, and then the bytes. A call of its own, so that what it keeps on
-// the stack is not there while the list is checked: tests/memory.
-#[inline(never)]
-fn write_ready(tree: Quadtree, file: &mut [u8]) -> Result<usize, Refusal>
-    ensures { (scan : Scan) (slots : List ℕ) → ready_check scan slots ≡ accepted → tree.entry.order ≡ scan.order
-        → tree.entry.words.now ≡ take scan.tiles slots
-        → Gives (write_answer result) file.new (write_of scan slots file.old) }
+// The offered call: writes the file of a finished scan's list and answers its length, or answers the first refusal and
+// changes no byte.
+pub fn write(scan: Scan, slots: &[u32], file: &mut [u8]) -> Result<usize, Refusal>
+    ensures { Gives (write_answer result) file.new (write_of scan slots.now file.old) }
 {
+    let tree = ready(scan, slots)?;
     let roster = Roster::of(tree.words);
     let length = BARE_LENGTH + WORD_LENGTH * tree.words.len() + ENTRY_LENGTH * roster.len();
     if file.len() < length {
@@ -81,13 +77,4 @@ fn write_ready(tree: Quadtree, file: &mut [u8]) -> Result<usize, Refusal>
     }
     put_file(tree, &roster, file);
     Ok(length)
-}
-
-// The offered call: writes the file of a finished scan's list and answers its length, or answers the first refusal and
-// changes no byte.
-pub fn write(scan: Scan, slots: &[u32], file: &mut [u8]) -> Result<usize, Refusal>
-    ensures { Gives (write_answer result) file.new (write_of scan slots.now file.old) }
-{
-    let tree = ready(scan, slots)?;
-    write_ready(tree, file)
 }

@@ -91,8 +91,18 @@ pub fn open_check(scan: Scan, slots: &[u32]) -> Result<Quadtree<'_>, Refusal>
     Ok(tree)
 }
 
-// The same for a call on finished scans that takes little stack: a finished scan has its list checked and nothing else,
-// with one call in between. Any other goes through all checks.
+// The opening checks without the list. A call of its own, so that the answer with the list is not on the caller's stack.
+#[cold]
+#[inline(never)]
+fn open_unfinished(scan: Scan, slots: &[u32]) -> Checked
+    ensures { said result ≡ opening scan slots.now }
+{
+    open_check(scan, slots)?;
+    Ok(())
+}
+
+// The same as `open_check` for a call on finished scans that takes little stack (tests/memory): a finished scan has its
+// list checked and nothing else, with one call in between. Any other goes through all checks.
 pub fn open_finished(scan: Scan, slots: &[u32]) -> Result<Quadtree<'_>, Refusal>
     ensures number { said result ≡ opening scan slots.now }
     ensures tree { IfOk result (λ q. (q.order ≡ scan.order) × (q.words.now ≡ take scan.tiles slots.now)) }
@@ -101,7 +111,8 @@ pub fn open_finished(scan: Scan, slots: &[u32]) -> Result<Quadtree<'_>, Refusal>
     if tile::area(scan.order) == scan.pixels {
         return Ok(tree);
     }
-    open_check(scan, slots)
+    open_unfinished(scan, slots)?;
+    Ok(tree)
 }
 
 // Whether every pixel is scanned: then what is asked need not be looked at.
