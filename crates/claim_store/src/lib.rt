@@ -10,7 +10,8 @@ ghost use Rattle.claim_store.specs.Stores.{Drawn, RoomMade};
 use claim_plan::Change;
 use tile::{Block, Tile};
 
-// Makes room for `count` words in place of those from lo up to hi, in a list of so many tiles.
+// Makes room for `count` words in place of those from lo up to hi, in a list of so many tiles: the slots behind the list
+// are needed too, so that the count stands beside them.
 pub fn make_room(slots: &mut [u32], lo: usize, hi: usize, tiles: usize, count: usize)
     requires { (lo ≤ hi) × (hi ≤ tiles) × (tiles ≤ length slots.old)
         × (lo + count + (tiles - hi) ≤ length slots.old) }

@@ -66,6 +66,7 @@ impl<'a> Maps<'a> {
         let pair = self.pair();
         let mut next = Some(pair.step(rule, START));
         let mut count = 0;
+        // Here and in `write` an iterator of runs would take a type with a contract of its own, for two loops.
         while let Some(step) = next {
             let run = pair.run(rule, step);
             count += list_cut::count_cut(step.from..run.stop, step.account);
@@ -101,7 +102,7 @@ const START: Place = Place {
 
 // The offered call by any rule: leaves the list of the third map in the slots `out`, the rest of them 0, and answers
 // its tile count; refused, answers the first refusal and changes no slot. The checks are those of the first map's list,
-// of the second's, 51, 25.
+// of the second's, 51, 25. Each list comes as C hands it, unchecked, with its count beside it.
 pub fn combine_by<R: Rule + Copy>(
     rule: R,
     order1: u32,

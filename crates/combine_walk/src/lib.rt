@@ -100,6 +100,7 @@ impl<'a> Pair<'a> {
         ensures { RunBy (R.made rule) self.entry.end self.entry.first.now self.entry.second.now step result }
     {
         let mut place = step.end;
+        // A `while`: a step is as long as both maps let it be.
         while place.z < self.end {
             let more = self.step(rule, place);
             if more.account != step.account {

@@ -65,6 +65,7 @@ struct Bed<'a> {
 #[derive(Clone, Copy, Debug)]
 struct Listing<'a> {
     bed: Option<Bed<'a>>,
+    // As the line has it, 0 for none.
     number: u32,
     taken: usize,
 }

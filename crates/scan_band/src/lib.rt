@@ -23,6 +23,7 @@ pub fn put_band(slots: &mut [u32], gap: Gap, feed: Feed, row: u32, size: u32) ->
     let step = tile::side(size);
     let mut moved = gap;
     let mut column = 0;
+    // A `while`: std's `step_by` leaves a measure to show, and is no plainer.
     while column < width {
         moved = scan_block::put_block(slots, moved, feed, Point { column, row }, size);
         column += step;

@@ -278,6 +278,7 @@ pub fn feed_all(scan: Scan, slots: &mut [u32], accounts: &[u8]) -> Result<Progre
         pixels: scan.pixels,
         gap,
     };
+    // A `while`: each turn takes as many accounts as suit.
     while at.taken < accounts.len() {
         at = feed_some(slots, kind, feed, at)?;
     }
