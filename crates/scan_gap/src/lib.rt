@@ -1,6 +1,5 @@
 // A tile list in lent slots with a gap: its words before `front` and those from `back` on. A pixel is put where the gap
-// lies, and merges with its siblings ahead of it before it needs a slot. The slots are handed along with the gap: that it
-// fits them is a fact beside a `&mut`, which no field can hold.
+// lies, and merges with its siblings ahead of it before it needs a slot. The slots are handed along with the gap.
 #![tactic(auto)]
 
 ghost use Rattle.std.specs.Prelude.{◌≡◌, true, ◌++◌, ◌+◌, ◌-◌, ◌^◌, ◌<◌, ◌≤◌, length, get_or, replicate};
