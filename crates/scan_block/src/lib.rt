@@ -93,8 +93,8 @@ pub fn put_quad(slots: &mut [u32], gap: Gap, z: u32, quad: [u8; 4]) -> Gap
     put_alone(slots, third, z + 3, d)
 }
 
-// Puts so many accounts, from number `at` on, on the pixels from z on, where the gap lies: whole quads. Chunks of four
-// would be no plainer: the pixel would still be counted by hand.
+// Puts so many accounts, from number `at` on, on the pixels from z on, where the gap lies: whole quads. Each is taken
+// apart by name: handed on as `*quad`, a feed took a tenth longer.
 pub fn put_stretch(
     slots: &mut [u32],
     gap: Gap,
@@ -110,24 +110,13 @@ pub fn put_stretch(
         (Line accounts.now at count z) result.front }
     ensures back { result.back ≡ gap.back }
 {
-    let end = at + count;
+    let (quads, _) = accounts[at..at + count].as_chunks::<4>();
     let mut moved = gap;
     let mut next = z;
-    let mut i = at;
-    while i < end {
-        moved = put_quad(
-            slots,
-            moved,
-            next,
-            [
-                accounts[i],
-                accounts[i + 1],
-                accounts[i + 2],
-                accounts[i + 3],
-            ],
-        );
+    for quad in quads {
+        let [a, b, c, d] = *quad;
+        moved = put_quad(slots, moved, next, [a, b, c, d]);
         next += 4;
-        i += 4;
     }
     moved
 }
