@@ -3,13 +3,13 @@
 --     words_at_at       the word at a place of them
 --     word_at_drop      a number is read from where it stands
 --     word_whole       a number is that of its 4 bytes
---     joined           std's number of 4 bytes is the definition's; joined_at, of those from p on
+--     joined           std's number of 4 bytes is the definition's
 --     word_at_take     a number is read from a part that has its bytes
 --     words_at_drop    words are read from where they stand
 --     words_in         bytes in fours are words
 --     get_or_word      each of them by its bytes
 use mathlib.Core.Path.{◌≡◌, refl, ap, ◌∙◌}
-use mathlib.Core.List.{List, [], ◌∷◌, map}
+use mathlib.Core.List.{List, [], map}
 use Prim.Native.Nat.{ℕ, zero, suc, ◌+◌, ◌*◌, ◌/◌, ◌%◌, ◌^◌, ◌<◌}
 use native.Mathlib.Omega.{arith}
 use lib.ListN.{length, take, drop, get_or, get_or-map}
@@ -41,10 +41,6 @@ word_whole w h = omega arith
 pub joined : (bs : List ℕ) → from_be_bytes w32 bs ≡ word_at bs 0
 unfolding word_at
 joined bs = omega arith
-
-pub joined_at : (bs : List ℕ) (p : ℕ) → from_be_bytes w32 (get_or bs p 0 ∷ get_or bs (p + 1) 0 ∷ get_or bs (p + 2) 0 ∷ get_or bs (p + 3) 0 ∷ []) ≡ word_at bs p
-unfolding word_at
-joined_at bs p = omega arith
 
 pub word_at_take : (n : ℕ) (bs : List ℕ) (p : ℕ) → p + 3 < n → word_at (take n bs) p ≡ word_at bs p
 unfolding word_at

@@ -48,12 +48,19 @@ impl Word for [u8; 4] {
     }
 }
 
+// The number of 4 bytes, one by one: to hand them on at once would make an array of them.
+fn join(a: u8, b: u8, c: u8, d: u8) -> u32
+    ensures { result ≡ ((a * 256 + b) * 256 + c) * 256 + d }
+{
+    ((u32::from(a) * 256 + u32::from(b)) * 256 + u32::from(c)) * 256 + u32::from(d)
+}
+
 // The number in the 4 bytes from `p` on.
 pub fn word_at(bytes: &[u8], p: usize) -> u32
     requires { p + word_length ≤ length bytes.now }
     ensures { result ≡ word_at bytes.now p }
 {
-    u32::from_be_bytes([bytes[p], bytes[p + 1], bytes[p + 2], bytes[p + 3]])
+    join(bytes[p], bytes[p + 1], bytes[p + 2], bytes[p + 3])
 }
 
 // The words that whole bytes make, 4 each.

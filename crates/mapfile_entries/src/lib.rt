@@ -36,7 +36,7 @@ impl<'a> Tiles<'a> {
     fn all_right(&self, entries: &[[u8; 5]]) -> bool
         ensures { IsTrue result ↔ All (λ e. IsTrue (entry_right (file_tiles self.now.words.now) (entry_in e))) entries.now }
     {
-        entries.iter().all(|entry| self.right(Entry::from(*entry)))
+        entries.iter().all(|entry| self.right(Entry::from(entry)))
     }
 
     // Entries that rise are the roster of the tiles: together they have the pixels of all tiles, and each has those of
@@ -82,7 +82,7 @@ fn rising(entries: &[[u8; 5]]) -> bool
 {
     let mut least = 0;
     for entry in entries {
-        let account = u32::from(Entry::from(*entry).account);
+        let account = u32::from(Entry::from(entry).account);
         if account < least {
             return false;
         }
@@ -98,6 +98,6 @@ fn pixels_in(entries: &[[u8; 5]]) -> usize
 {
     entries
         .iter()
-        .map(|entry| Entry::from(*entry).pixels as usize)
+        .map(|entry| Entry::from(entry).pixels as usize)
         .sum()
 }

@@ -19,16 +19,16 @@ pub struct Entry {
     pub pixels: u32,
 }
 
-// The entry in its bytes in a file.
-impl From<[u8; 5]> for Entry {
+// The entry in its bytes in a file, which are only looked at: an array of them would be a copy.
+impl From<&[u8; 5]> for Entry {
     ghost use Rattle.mapfile_roster.specs.Roster.{entry_in};
 
-    ghost from_gives = { λ bytes e. e ≡ entry_in bytes };
+    ghost from_gives = { λ bytes e. e ≡ entry_in bytes.now };
 
-    fn from(bytes: [u8; 5]) -> Entry {
+    fn from(bytes: &[u8; 5]) -> Entry {
         Entry {
             account: bytes[0],
-            pixels: mapfile_bytes::word_at(&bytes, 1),
+            pixels: mapfile_bytes::word_at(bytes, 1),
         }
     }
 }

@@ -1,7 +1,7 @@
--- The bytes joined are the definition's number.
-use mathlib.Core.Path.{◌∙◌}
-use Rattle.mapfile_bytes.proofs.ItemsLaws.{joined_at}
+-- The four bytes joined are the definition's number.
+use Rattle.mapfile_bytes.specs.Items.{word_at}
 use Rattle.mapfile_bytes.proofs.word_at.Goals as goal
 
 pub returns : goal.returns
-returns c = c.from_be_bytes.ensures ∙ joined_at _ _
+unfolding word_at
+returns c = c.join.ensures
