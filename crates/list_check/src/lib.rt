@@ -157,13 +157,14 @@ fn sound(order: u32, stop: u32, word: u32) -> Checked
     Err(broken(order, word))
 }
 
-// The words in turn, behind the tiles that `begin` tells of.
-fn exact(order: u32, begin: Ahead, words: &[u32]) -> Checked
+// Of the words the first, `most` of them at most, in turn, behind the tiles that `begin` tells of. They are counted
+// here: over a shorter slice the check of a single tile took a quarter longer.
+fn exact(order: u32, begin: Ahead, words: &[u32], most: usize) -> Checked
     requires { order ≤ highest_order }
-    ensures { (x : ℕ) → Going order words.now x 0 begin → said result ≡ x }
+    ensures { (x : ℕ) → Going order (take most words.now) x 0 begin → said result ≡ x }
 {
     let mut ahead = begin;
-    for word in words {
+    for word in words.iter().take(most) {
         ahead = ahead.step(order, *word)?;
     }
     Ok(())
@@ -209,7 +210,7 @@ pub fn check_head(order: u32, tiles: usize, slots: &[u32]) -> Checked
     ensures { Begun order tiles slots.now (said result) }
 {
     let words = words_of(order, tiles, slots)?;
-    exact(order, Ahead::start(), &words[..HEAD.min(tiles)])
+    exact(order, Ahead::start(), words, HEAD)
 }
 
 // The checks of the head of a list, unless `known` says that all its words pass.
@@ -236,7 +237,8 @@ pub fn check_words(order: u32, known: usize, words: &[u32]) -> Checked
         return Ok(());
     }
     let i = flat_upto(order, words);
-    exact(order, Ahead::of(words, i), &words[i..])
+    let rest = &words[i..];
+    exact(order, Ahead::of(words, i), rest, rest.len())
 }
 
 // The offered call: checks a list of an order, its tile count and its slots, and answers the first refusal, or the

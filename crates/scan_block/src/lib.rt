@@ -94,7 +94,9 @@ pub fn put_quad(slots: &mut [u32], gap: Gap, z: u32, quad: [u8; 4]) -> Gap
 }
 
 // Puts so many accounts, from number `at` on, on the pixels from z on, where the gap lies: whole quads. Each is taken
-// apart by name: handed on as `*quad`, a feed took a tenth longer.
+// apart by name: handed on as `*quad`, a feed took a tenth longer. A call of its own, so that its loop has the registers
+// to itself: as a part of `kb_feed` it fetched the slots' place from the stack for each tile.
+#[inline(never)]
 pub fn put_stretch(
     slots: &mut [u32],
     gap: Gap,

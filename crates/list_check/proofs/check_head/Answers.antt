@@ -1,7 +1,7 @@
 -- Checks 1 and 2 decide, or the words of the head do.
-use Rattle.std.proofs.Common.{◌≡◌, ◌≤◌, take}
+use Rattle.std.proofs.Common.{◌≡◌, ◌≤◌, ℕ, min, length, take, sym, ◌∙◌}
 use native.Mathlib.Omega.{arith}
-use Rattle.std.proofs.lemmas.List.{take-take}
+use Rattle.std.proofs.lemmas.List.{take-take, take_min, length-take-le}
 use Rattle.std.proofs.lemmas.Result.{err_from_is_err_and}
 use Rattle.list_check.proofs.PassLaws.{going_start, going_same}
 use Rattle.list_check.proofs.HeadLaws.{begun_refused, begun_words}
@@ -16,8 +16,11 @@ returns-in_err-words c =
 pub returns : goal.returns
 returns c =
     let a = c.args in
-    let m = c.min.ensures in
     let f = c.in_ok-words.ensures in
-    let h : (c.min.result ≤ a.tiles) × (a.tiles ≤ 8 → c.min.result ≡ a.tiles) × (8 ≤ a.tiles → c.min.result ≡ 8) =
-    (omega (arith, m), λ l. omega (arith, m, l), λ l. omega (arith, m, l)) in
-    begun_words a.order a.tiles a.slots.now f.0 f.1 _ h _ (c.exact.ensures _ (going_same (rw f.2 (take-take _ _ a.slots.now h.0)) (going_start a.order (take c.min.result a.slots.now) c.start.ensures)))
+    let ws = take a.tiles a.slots.now in
+    let l = length-take-le a.tiles a.slots.now f.1 in
+    let h : ℕ = min 8 (length ws) in
+    let b : (h ≤ a.tiles) × (a.tiles ≤ 8 → h ≡ a.tiles) × (8 ≤ a.tiles → h ≡ 8) =
+    (omega (arith, l), λ k. omega (arith, l, k), λ k. omega (arith, l, k)) in
+    let e = sym (take_min 8 ws) ∙ take-take h a.tiles a.slots.now b.0 in
+    begun_words a.order a.tiles a.slots.now f.0 f.1 h b _ (c.exact.ensures _ (going_same (rw f.2 e) (going_start a.order (take h a.slots.now) c.start.ensures)))

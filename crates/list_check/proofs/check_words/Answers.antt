@@ -7,7 +7,7 @@ use Rattle.std.proofs.lemmas.Result.{err_from_is_err_and}
 use Rattle.refusal.proofs.RefusedLaws.{number_some}
 use Rattle.list_check.specs.ListCheck.{words_check}
 use Rattle.list_check.proofs.FrontLaws.{going_behind}
-use Rattle.list_check.proofs.PassLaws.{going_cut}
+use Rattle.list_check.proofs.PassLaws.{going_cut, going_same}
 use Rattle.list_check.proofs.HeadLaws.{words_list}
 use Rattle.list_check.proofs.check_words.Goals as goal
 
@@ -28,7 +28,7 @@ returns c =
     let a = c.args in
     let upto = c.flat_upto-i in
     let going = going_behind a.order a.words.now upto.result upto.ensures.1 upto.ensures.2 (c.of.ensures a.order upto.ensures.2) in
-    c.exact.ensures (words_check a.order [] a.words.now) (going_cut a.order a.words.now _ upto.result going)
+    c.exact.ensures (words_check a.order [] a.words.now) (going_same (take-length _) (going_cut a.order a.words.now _ upto.result going))
 
 pub flat_upto-i-requires : goal.flat_upto-i-requires
 flat_upto-i-requires c =
