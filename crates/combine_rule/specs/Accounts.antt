@@ -1,4 +1,4 @@
--- The law that a rule owes, of the rule of a choice: of two accounts it makes an account.
+-- Inner: the proof of the law that a rule owes, of the rule of a choice: of two accounts it makes an account.
 use Prim.Native.Nat.{zero, suc}
 use native.Mathlib.Omega.{arith}
 use Rattle.combine_rule.specs.declared.Choice.{Choice}

@@ -26,10 +26,10 @@ pub struct Place {
 
 // A stretch of one map: its account, where it ends, and the first tile that does not end ahead of it.
 #[derive(Clone, Copy, Debug, PartialEq, Eq)]
-struct Piece {
-    account: u8,
-    stop: u32,
-    at: usize,
+pub struct Piece {
+    pub account: u8,
+    pub stop: u32,
+    pub at: usize,
 }
 
 // A stretch of the third map: where it begins, its account, and the place where it ends.

@@ -1,1 +1,3 @@
--- No laws of its own.
+-- Laws of the exports.
+--     ExportLaws   an answer with a record in numbers is the definition's
+pub mod ExportLaws

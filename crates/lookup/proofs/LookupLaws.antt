@@ -4,6 +4,7 @@
 --     lookup_check_last                    past the opening checks and 31 only 52 is left
 --     point_number                        the Morton number by all bits of a column and a row is that of the order
 --     lookup_of_number, lookup_of_block     its number is that of the checks; past them it names the block
+--     lookup_of_found                       the same, by the number of all bits of a column and a row
 --     lookup_of_words                       by the words of the checked list
 use mathlib.Core.Path.{◌≡◌, refl, sym, ◌∙◌}
 use mathlib.Core.List.{List}
@@ -71,6 +72,12 @@ module _ (scan : Scan) (slots : List ℕ) (c r : ℕ) where
   pub lookup_of_block : lookup_check scan slots c r ≡ accepted → lookup_of scan slots c r ≡ found_of block
   unfolding lookup_of
   lookup_of_block e = unless_on _ _ _ e
+
+  -- the same, by the number of all bits of a column and a row
+  pub lookup_of_found : (x z : ℕ) → x ≡ lookup_check scan slots c r → x ≡ accepted → z ≡ morton side_bits c r → found_of (block_at (shown_bed scan slots) (tiles_in scan.tiles slots) z) ≡ lookup_of scan slots c r
+  lookup_of_found x z e h ez =
+      let p = sym e ∙ h in
+      rw (ez, point_number (lookup_check_passed p)) (sym (lookup_of_block p))
 
   -- by the words of the checked list
   pub lookup_of_words : {ws : List ℕ} {z : ℕ} {b : Tile} → opening scan slots ≡ accepted → point_check n c r ≡ accepted → z ≡ morton n c r → scanned_check scan z ≡ accepted → ws ≡ take scan.tiles slots →

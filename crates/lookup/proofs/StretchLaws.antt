@@ -138,13 +138,13 @@ module _ {lo hi z b : ℕ} (behind : Without z hi b) (upto : z < hi) where
   largest_first e = record { lies = (omega arith, without_before behind upto); top = λ l. omega (arith, l.1, behind.over.1) }
 
   module _ {a : ℕ} (first : 0 < lo) (ahead : Without z (lo - 1) a) (from : lo ≤ z) where
-    largest_ahead : a < b → LargestIn lo hi z a
+    pub largest_ahead : a < b → LargestIn lo hi z a
     largest_ahead h = record {
       lies = (omega (arith, without_behind ahead (omega arith)), omega (arith, (corner_nest z {j = a} {k = b} (omega arith)).1, without_before behind upto));
       top = λ l. omega (arith, l.0, ahead.over.0);
     }
 
-    largest_behind : b ≤ a → LargestIn lo hi z b
+    pub largest_behind : b ≤ a → LargestIn lo hi z b
     largest_behind h = record {
       lies = (omega (arith, (corner_nest z {j = b} {k = a} h).0, without_behind ahead (omega arith)), without_before behind upto);
       top = λ l. omega (arith, l.1, behind.over.1);
