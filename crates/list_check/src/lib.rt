@@ -158,7 +158,7 @@ fn sound(order: u32, stop: u32, word: u32) -> Checked
 }
 
 // Of the words the first, `most` of them at most, in turn, behind the tiles that `begin` tells of. They are counted
-// here: over a shorter slice the check of a single tile took a quarter longer.
+// here: over a shorter slice, or over an index, the check of a single tile took longer (docs/DECISIONS.md, A19).
 fn exact(order: u32, begin: Ahead, words: &[u32], most: usize) -> Checked
     requires { order ≤ highest_order }
     ensures { (x : ℕ) → Going order (take most words.now) x 0 begin → said result ≡ x }
@@ -225,8 +225,7 @@ fn check_unknown(order: u32, known: usize, words: &[u32]) -> Checked
 }
 
 // The words of a list, of which the first `known` are known to pass. Callers make the slice for it, which is faster
-// than to hand one on, and the hints keep it out of the way of short lists: docs/DECISIONS.md, A19.
-#[cold]
+// than to hand one on, and the hint keeps it out of the way of short lists: docs/DECISIONS.md, A19.
 #[inline(never)]
 pub fn check_words(order: u32, known: usize, words: &[u32]) -> Checked
     requires { (order ≤ highest_order) × (known ≤ length words.now) × FrontPasses order words.now known }

@@ -3,7 +3,6 @@
 --     words_at_at       the word at a place of them
 --     word_at_drop      a number is read from where it stands
 --     word_whole       a number is that of its 4 bytes
---     joined           std's number of 4 bytes is the definition's
 --     word_at_take     a number is read from a part that has its bytes
 --     words_at_drop    words are read from where they stand
 --     words_in         bytes in fours are words
@@ -14,7 +13,6 @@ use Prim.Native.Nat.{ℕ, zero, suc, ◌+◌, ◌*◌, ◌/◌, ◌%◌, ◌^◌
 use native.Mathlib.Omega.{arith}
 use lib.ListN.{length, take, drop, get_or, get_or-map}
 use lib.Seq.{get_or-drop, get_or-take}
-use Rattle.std.specs.Int.{w32, from_be_bytes}
 use Rattle.std.specs.Simd.{first_chunks}
 use Rattle.mapfile_bytes.specs.Items.{word_at, words_at}
 
@@ -37,10 +35,6 @@ word_at_drop bs p =
 
 pub word_whole : (w : ℕ) → w < 2 ^ 32 → ((w / 2 ^ 24 * 256 + w / 2 ^ 16 % 256) * 256 + w / 2 ^ 8 % 256) * 256 + w % 256 ≡ w
 word_whole w h = omega arith
-
-pub joined : (bs : List ℕ) → from_be_bytes w32 bs ≡ word_at bs 0
-unfolding word_at
-joined bs = omega arith
 
 pub word_at_take : (n : ℕ) (bs : List ℕ) (p : ℕ) → p + 3 < n → word_at (take n bs) p ≡ word_at bs p
 unfolding word_at

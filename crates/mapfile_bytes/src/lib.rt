@@ -44,11 +44,11 @@ impl Word for [u8; 4] {
     ghost value = { λ bytes. word_at bytes 0 };
 
     fn number(&self) -> u32 {
-        u32::from_be_bytes(*self)
+        join(self[0], self[1], self[2], self[3])
     }
 }
 
-// The number of 4 bytes, one by one: to hand them on at once would make an array of them.
+// The number of 4 bytes, one by one: an array of them would be a copy.
 fn join(a: u8, b: u8, c: u8, d: u8) -> u32
     ensures { result ≡ ((a * 256 + b) * 256 + c) * 256 + d }
 {

@@ -3,18 +3,17 @@
 --     sets_front         what is stored from the start on, and what is left behind it
 --     part_all           the part behind p is what is left without the first p
 --     part_put           what is stored into that part is stored from p on; part_same, the whole is as long as before
---     put_word           a number's bytes stored over four are a word's
+--     put_word           four bytes stored are a word's
 --     words_on, -end     words stored one by one: those left are still to be stored
-use mathlib.Core.Path.{◌≡◌, refl, ap, sym, ◌∙◌}
+use mathlib.Core.Path.{◌≡◌, ap, sym, ◌∙◌}
 use mathlib.Core.List.{List, [], ◌∷◌, ◌++◌, append_assoc, append-nil}
 use Prim.Native.Nat.{ℕ, suc, ◌+◌, ◌-◌, ◌/◌, ◌%◌, ◌^◌, ◌≤◌, ◌<◌}
 use native.Mathlib.Nat.{add-zero}
 use native.Mathlib.Omega.{arith}
-use native.Mathlib.Numerals.{add-one}
+use native.Mathlib.Numerals.{add-one, add-two, add-three}
 use lib.ListN.{length, take, drop, get_or, set, length-drop}
 use lib.Seq.{sets, sets-eq, length-sets, take_all, drop-drop, drop-cons, drop-length}
-use borrow.Rule.Slice.PartMut.{put_mid, same_len_mid}
-use Rattle.std.specs.Int.{w32, to_be_bytes}
+use borrow.Rule.Slice.PartMut.{same_len_mid}
 use Rattle.mapfile_sections.specs.Sections.{word_bytes, words_bytes}
 
 pub sets_append : (xs : List ℕ) (p : ℕ) (vs ws : List ℕ) → sets xs p (vs ++ ws) ≡ sets (sets xs p vs) (p + length vs) ws
@@ -38,11 +37,11 @@ part_put xs ys p vs h e =
 pub part_same : (xs ys : List ℕ) (p : ℕ) (vs : List ℕ) → ys ≡ sets (take (length xs - p) (drop p xs)) 0 vs → length (take p xs ++ (ys ++ drop (length xs - p) (drop p xs))) ≡ length xs
 part_same xs ys p vs e = same_len_mid p (length xs - p) xs ys (ap length e ∙ length-sets (take (length xs - p) (drop p xs)) 0 vs)
 
-pub put_word : (xs ys : List ℕ) (at n w : ℕ) → w < 2 ^ 32 → at + 4 ≤ length xs → n ≡ 4 → ys ≡ to_be_bytes w32 w → put_mid at n xs ys ≡ sets xs at (word_bytes w)
-put_word xs ys at n w l room en ey =
+pub put_word : (xs : List ℕ) (at w a b c d : ℕ) → w < 2 ^ 32 → a ≡ w / 2 ^ 24 % 256 → b ≡ w / 2 ^ 16 % 256 → c ≡ w / 2 ^ 8 % 256 → d ≡ w % 256
+    → set (set (set (set xs at a) (at + 1) b) (at + 2) c) (at + 3) d ≡ sets xs at (word_bytes w)
+put_word xs at w a b c d l ea eb ec ed =
     let e : w / 2 ^ 24 % 256 ≡ w / 2 ^ 24 = omega arith in
-    let y : ys ≡ word_bytes w = ey ∙ rw e refl in
-    rw (y, en) (ap (λ (r : List ℕ). take at xs ++ (word_bytes w ++ r)) (drop-drop 4 at xs) ∙ sym (append_assoc (take at xs) (word_bytes w) (drop (at + 4) xs)) ∙ sym (sets-eq (word_bytes w) xs at room))
+    rw (add-one at, add-two at, add-three at, ea, eb, ec, ed, e)
 
 module _ {all : List ℕ} (xs ws : List ℕ) (i p : ℕ) (e : all ≡ sets xs p (words_bytes (drop i ws))) where
   pub words_on : (ys : List ℕ) (w q : ℕ) → i < length ws → get_or ws i 0 ≡ w → q ≡ p + 4 → ys ≡ sets xs p (word_bytes w) → all ≡ sets ys q (words_bytes (drop (i + 1) ws))

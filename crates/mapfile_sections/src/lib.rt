@@ -2,7 +2,7 @@
 // each account that has tiles.
 #![tactic(auto)]
 
-ghost use Rattle.std.specs.Prelude.{◌≡◌, ℕ, ◌+◌, ◌*◌, ◌^◌, ◌<◌, ◌≤◌, ltb, length, map};
+ghost use Rattle.std.specs.Prelude.{◌≡◌, ℕ, ◌+◌, ◌*◌, ◌%◌, ◌^◌, ◌<◌, ◌≤◌, ltb, length, map};
 ghost use Rattle.std.proofs.lemmas.List.Edits.{sets};
 ghost use Rattle.tile.specs.Tile.{tile_of, highest_account};
 ghost use Rattle.mapfile_bytes.specs.Layout.{word_length, words_place, roster_place, entry_length, roster_length};
@@ -14,12 +14,22 @@ ghost use Rattle.mapfile_sections.specs.Sections.{word_bytes, words_bytes, entri
 use mapfile_bytes::{ENTRIES_PLACE, ENTRY_LENGTH, WORD_LENGTH, WORDS_PLACE};
 use mapfile_roster::{Accounts, Entry, LOWEST_ACCOUNT};
 
+// The lowest byte of a number.
+fn low(w: u32) -> u8
+    ensures { result ≡ w % 256 }
+{
+    (w % 256) as u8
+}
+
 // A number into the 4 bytes from `at` on, high byte first.
 pub fn put(file: &mut [u8], at: usize, w: u32)
     requires { at + word_length ≤ length file.old }
     ensures { file.new ≡ sets file.old at (word_bytes w) }
 {
-    file[at..at + WORD_LENGTH].copy_from_slice(&w.to_be_bytes());
+    file[at] = low(w >> 24);
+    file[at + 1] = low(w >> 16);
+    file[at + 2] = low(w >> 8);
+    file[at + 3] = low(w);
 }
 
 // The words of a list into their place.

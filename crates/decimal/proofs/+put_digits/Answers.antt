@@ -10,7 +10,8 @@ pub returns-then-n-lt10 : goal.returns-then-n-lt10
 returns-then-n-lt10 t c = digits_last c.args.places c.args.n c.if-places-eq0.false c.if-n-lt10.true c.digit.ensures c.put.ensures
 
 pub returns : goal.returns
-returns t c = digits_more c.args.places c.args.n c.if-places-eq0.false c.if-n-lt10.false c.digit-2.ensures c.put_digits.ensures c.put-2.ensures
+returns t c =
+    digits_more c.args.places c.args.n c.if-places-eq0.false {d = c.digit-2.result} c.if-n-lt10.false (omega (arith, c.digit-2.ensures)) c.put_digits.ensures c.put-2.ensures
 
 pub put-requires-2 : goal.put-requires-2
 put-requires-2 t c = omega (arith, c.put_digits.ensures.put.stop, digits_by_most (c.args.places - 1) (c.args.n / 10))

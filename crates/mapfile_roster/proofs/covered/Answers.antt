@@ -12,4 +12,4 @@ overflow_add-sum g c =
     omega (arith, c.requires, covered_on g.W.Word.value c.args.account _ _ _ c.loop-word.invariant _ _ _ c.loop-word-test.true c.word-item.is c.number.ensures c.share-sum.ensures)
 
 pub returns : goal.returns
-returns g c = covered_end g.W.Word.value c.args.account c.args.words.now c.loop-word.word-index _ c.loop-word.invariant (omega arith)
+returns g c = omega (arith, covered_end g.W.Word.value c.args.account c.args.words.now c.loop-word.word-index _ c.loop-word.invariant (omega arith))

@@ -1,10 +1,19 @@
--- The bytes stored are the word's.
-use mathlib.Core.Path.{◌∙◌}
-use native.Mathlib.Omega.{arith}
+-- Four bytes stored one after the other: each is its part of the number.
+use lib.ListN.{length-set}
 use Rattle.mapfile_sections.proofs.Puts.{put_word}
+use native.Mathlib.Omega.{arith}
 use Rattle.mapfile_sections.proofs.put.Goals as goal
+
+pub bounds-file-at-2 : goal.bounds-file-at-2
+bounds-file-at-2 c = simp length-set (omega arith)
+
+pub bounds-file-at-3 : goal.bounds-file-at-3
+bounds-file-at-3 c = simp length-set (omega arith)
+
+pub bounds-file-at-4 : goal.bounds-file-at-4
+bounds-file-at-4 c = simp length-set (omega arith)
 
 pub returns : goal.returns
 returns c =
     let a = c.args in
-    put_word a.file.now c.copy_from_slice.new.self a.at _ a.w (omega arith) c.requires (omega arith) (c.copy_from_slice.ensures.after ∙ c.to_be_bytes.ensures)
+    put_word a.file.now a.at a.w _ _ _ _ (omega arith) (omega arith) (omega arith) (omega arith) (omega arith)

@@ -27,7 +27,7 @@ returns-then-area-scan-clause-number c =
 pub returns-then-area-scan-2-clause-number : goal.returns-then-area-scan-2-clause-number
 returns-then-area-scan-2-clause-number c =
     let a = c.args in
-    open_whole a.scan a.slots.now (sym c.in_ok-tree.ensures.number) (sym c.area-area.ensures ∙ c.if-area-scan-2.true)
+    open_whole a.scan a.slots.now (sym c.in_ok-tree.ensures.number) (omega (arith, c.area-area.ensures, c.if-area-scan.false, c.if-area-scan-2.true))
 
 pub returns-then-covers_unscanned-clause-number : goal.returns-then-covers_unscanned-clause-number
 returns-then-covers_unscanned-clause-number c =

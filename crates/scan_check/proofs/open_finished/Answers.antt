@@ -3,7 +3,7 @@ use Rattle.std.proofs.lemmas.Result.{err_from_is_err_and}
 use Rattle.refusal.proofs.RefusedLaws.{number_some}
 use Rattle.scan_check.proofs.Opening.{open_list, open_whole}
 use Rattle.list_check.proofs.Accepts.{list_check_valid}
-use mathlib.Core.Path.{◌∙◌, sym}
+use mathlib.Core.Path.{sym}
 use native.Mathlib.Omega.{arith}
 use Rattle.scan_check.proofs.open_finished.Goals as goal
 
@@ -14,7 +14,7 @@ returns-in_err-tree-clause-number c =
     rw (p.1, p.2) (open_list c.args.scan c.args.slots.now _ c.in_err-tree.ensures.number (λ z. omega (arith, h, z)))
 
 pub returns-then-area-scan-clause-number : goal.returns-then-area-scan-clause-number
-returns-then-area-scan-clause-number c = open_whole c.args.scan c.args.slots.now (sym c.in_ok-tree.ensures.number) (sym c.area.ensures ∙ c.if-area-scan.true)
+returns-then-area-scan-clause-number c = open_whole c.args.scan c.args.slots.now (sym c.in_ok-tree.ensures.number) (omega (arith, c.area.ensures, c.if-area-scan.true))
 
 pub area-requires : goal.area-requires
 area-requires c =

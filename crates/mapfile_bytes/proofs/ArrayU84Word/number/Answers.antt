@@ -1,7 +1,7 @@
--- The bytes joined are the definition's number.
-use mathlib.Core.Path.{◌∙◌}
-use Rattle.mapfile_bytes.proofs.ItemsLaws.{joined}
+-- The four bytes joined are the definition's number.
+use Rattle.mapfile_bytes.specs.Items.{word_at}
 use Rattle.mapfile_bytes.proofs.ArrayU84Word.number.Goals as goal
 
 pub returns : goal.returns
-returns c = c.from_be_bytes.ensures ∙ joined _
+unfolding word_at
+returns c = c.join.ensures
