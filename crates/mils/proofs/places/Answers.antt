@@ -6,4 +6,4 @@ use Rattle.mils.proofs.places.Goals as goal
 pub returns : goal.returns
 returns c =
     let e = c.ilog10.ensures in
-    places_of c.ilog10.result c.max.result c.args.n e.power_le e.next_power_gt (omega arith) c.requires (omega arith) (omega arith) (omega arith) (omega arith)
+    places_of c.ilog10.result c.max.result c.args.n (omega (arith, c.max.ensures)) e.power_le e.next_power_gt c.requires
